@@ -1,0 +1,6 @@
+pub mod Parts
+pub mod Cells
+pub mod Tests
+pub mod Bits
+pub mod Stores
+pub mod Writes

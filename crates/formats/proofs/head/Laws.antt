@@ -1,0 +1,289 @@
+-- What the tests of the heads say, and the laws of heads and fresh tables.
+-- Assumes nothing.
+use Prim.Native.Nat.{ℕ, _+_, _-_, _*_, _≤_, _<_, _^_}
+use mathlib.Core.Path.{_≡_, refl, sym, ap, _∙_}
+use mathlib.Core.List.{List, _++_, append-assoc}
+use mathlib.Core.Bool.{Bool, true, false, not, true≢false}
+use mathlib.Core.Logic.{_⊎_, inr, ⊎-map}
+use native.Mathlib.Omega.{arith}
+use lib.ListN.{length, getD, replicate, length-append, length-replicate, getD-replicate}
+use lib.Seq.{ext-getD, getD-append-add}
+use lib.Dec.{lit<}
+use borrow.Author.Tests.{le-leb, leb-true, eq-eqb, eqb-true, not-true, not-false}
+use Rattle.formats.specs.Part.{part, put}
+use Rattle.formats.specs.Field.{number, bytesOf}
+use Rattle.formats.specs.Head.{ledgerApplication, rowsOf, ledgerPasses, tablePasses, titlesPass, rulesPass, rulesApplication, ledgerAnswer, titlesAnswer, rulesAnswer, rulesAnswerFor, freshLedger, tableHead, freshTitles, freshRules}
+use Rattle.formats.proofs.Parts.{part-length, getD-part, put-length, part-put-before, getD-put-before}
+use Rattle.formats.proofs.field.Laws.{length-bytesOf, number-whole}
+use Rattle.formats.proofs.Tests.{split, both, either, one-holds, refuses}
+
+-- a ledger whose length and head are right
+pub record LedgerHead (l : List ℕ) : Type 0 where
+  pub low : 1 ≤ rowsOf l
+  pub high : rowsOf l ≤ 999
+  pub size : length l ≡ 24 * (rowsOf l + 1)
+
+-- a ledger that passes has a right head
+pub ledger-head : (l : List ℕ) → ledgerPasses l ≡ true → LedgerHead l
+unfolding ledgerPasses
+ledger-head l e =
+    let (p, q) = split _ _ e in
+    let (r, s) = split _ _ q in
+    record { low = leb-true _ _ p; high = leb-true _ _ r; size = eqb-true _ _ s }
+
+-- and a ledger with a right head passes
+pub ledger-passes : {l : List ℕ} → LedgerHead l → ledgerPasses l ≡ true
+unfolding ledgerPasses
+ledger-passes h = both (le-leb _ _ (h .low)) (both (le-leb _ _ (h .high)) (eq-eqb _ _ (h .size)))
+
+-- what the heads of both card tables have
+pub record TableHead (identifier size width mark : ℕ) (t : List ℕ) : Type 0 where
+  pub long : length t ≡ size
+  pub names : number (part t 0 2) ≡ identifier
+  pub sized : number (part t 4 4) ≡ size
+  pub count : number (part t 10 2) ≡ 999
+  pub wide : getD t 12 0 ≡ width
+  pub marked : getD t 13 0 ≡ mark
+
+-- a table that passes has them
+pub table-head : {identifier size width mark : ℕ} {t : List ℕ} → tablePasses identifier size width mark t ≡ true → TableHead identifier size width mark t
+unfolding tablePasses
+table-head e =
+    let (p, e₁) = split _ _ e in
+    let (q, e₂) = split _ _ e₁ in
+    let (r, e₃) = split _ _ e₂ in
+    let (s, e₄) = split _ _ e₃ in
+    let (w, m) = split _ _ e₄ in
+    record { long = eqb-true _ _ p; names = eqb-true _ _ q; sized = eqb-true _ _ r; count = eqb-true _ _ s; wide = eqb-true _ _ w; marked = eqb-true _ _ m }
+
+-- and a table that has them passes
+pub table-passes : {identifier size width mark : ℕ} {t : List ℕ} → TableHead identifier size width mark t → tablePasses identifier size width mark t ≡ true
+unfolding tablePasses
+table-passes h =
+    both (eq-eqb _ _ (h .long))
+    (both (eq-eqb _ _ (h .names)) (both (eq-eqb _ _ (h .sized)) (both (eq-eqb _ _ (h .count)) (both (eq-eqb _ _ (h .wide)) (eq-eqb _ _ (h .marked))))))
+
+-- what a yes of `check_table` says
+pub table-held : {b : Bool} {identifier size width mark : ℕ} {t : List ℕ} → b ≡ tablePasses identifier size width mark t → not b ≡ false → TableHead identifier size width mark t
+table-held e n = table-head (sym e ∙ not-false _ n)
+
+-- what a no of `check_table` says
+pub table-failed : {b : Bool} {identifier size width mark : ℕ} {t : List ℕ} → b ≡ tablePasses identifier size width mark t → not b ≡ true → TableHead identifier size width mark t → ⊥
+table-failed e n h = true≢false (sym (table-passes h) ∙ sym e ∙ not-true _ n)
+
+-- a title table whose length and head are right
+pub record TitlesHead (t : List ℕ) : Type 0 where
+  pub table : TableHead 0x4131 16000 16 0x01 t
+  pub version : (getD t 3 0 ≡ 0x09) ⊎ (getD t 3 0 ≡ 0x10)
+  pub zero : number (part t 8 2) ≡ 0
+
+-- a title table that passes has a right head
+pub titles-head : {t : List ℕ} → titlesPass t ≡ true → TitlesHead t
+unfolding titlesPass
+titles-head e =
+    let (p, q) = split _ _ e in
+    let (v, z) = split _ _ q in
+    record { table = table-head p; version = ⊎-map (eqb-true _ _) (eqb-true _ _) (either _ _ v); zero = eqb-true _ _ z }
+
+-- and a title table with a right head passes
+pub titles-pass : {t : List ℕ} → TitlesHead t → titlesPass t ≡ true
+unfolding titlesPass
+titles-pass h = both (table-passes (h .table)) (both (one-holds (⊎-map (eq-eqb _ _) (eq-eqb _ _) (h .version))) (eq-eqb _ _ (h .zero)))
+
+-- a rule table whose length and head are right
+pub record RulesHead (r : List ℕ) : Type 0 where
+  pub table : TableHead 0x4D31 32000 32 0x02 r
+  pub version : 0x11 ≤ getD r 3 0
+
+-- a rule table that passes has a right head
+pub rules-head : {r : List ℕ} → rulesPass r ≡ true → RulesHead r
+unfolding rulesPass
+rules-head e =
+    let (p, v) = split _ _ e in
+    record { table = table-head p; version = leb-true _ _ v }
+
+-- and a rule table with a right head passes
+pub rules-pass : {r : List ℕ} → RulesHead r → rulesPass r ≡ true
+unfolding rulesPass
+rules-pass h = both (table-passes (h .table)) (le-leb _ _ (h .version))
+
+-- a ledger is refused where its head is not right
+pub ledger-refused : {l : List ℕ} → (LedgerHead l → ⊥) → 7 ≡ ledgerAnswer l
+ledger-refused h = refuses (λ e. h (ledger-head _ e))
+
+-- so is a title table
+pub titles-refused : {t : List ℕ} → (TitlesHead t → ⊥) → 8 ≡ titlesAnswer t
+titles-refused h = refuses (λ e. h (titles-head e))
+
+-- so is a rule table
+pub rules-refused : {r : List ℕ} → (RulesHead r → ⊥) → 9 ≡ rulesAnswer r
+rules-refused h = refuses (λ e. h (rules-head e))
+
+-- and a rule table with another application number
+pub rules-refused-for : {application : ℕ} {r : List ℕ} → (RulesHead r → rulesApplication r ≡ application → ⊥) → 9 ≡ rulesAnswerFor application r
+rules-refused-for h =
+    refuses
+    (λ e.
+    let (p, q) = split _ _ e in
+    h (rules-head p) (eqb-true _ _ q))
+
+-- a title table that passes has 1,000 entries of 16 bytes, the head included
+pub titles-length : (t : List ℕ) → titlesPass t ≡ true → length t ≡ 16000
+titles-length t e = titles-head e .table .long
+
+-- a rule table that passes has 1,000 entries of 32 bytes, the head included
+pub rules-length : (r : List ℕ) → rulesPass r ≡ true → length r ≡ 32000
+rules-length r e = rules-head e .table .long
+
+-- what is put behind a head leaves the head as it was
+module _ (l p : List ℕ) (a : ℕ) (within : a + length p ≤ length l) where
+  -- a number in front of it
+  same : (b n : ℕ) → b + n ≤ a → number (part (put l a p) b n) ≡ number (part l b n)
+  same b n h = ap number (part-put-before l p a within b n h)
+
+  -- the ledger's application number
+  pub ledger-application-kept : 24 ≤ a → ledgerApplication (put l a p) ≡ ledgerApplication l
+  ledger-application-kept h = same 0 2 (omega arith)
+
+  -- the ledger's count of rows
+  pub rows-kept : 24 ≤ a → rowsOf (put l a p) ≡ rowsOf l
+  rows-kept h = same 2 2 (omega arith)
+
+  -- whether a ledger passes
+  pub ledger-kept : 24 ≤ a → ledgerPasses (put l a p) ≡ ledgerPasses l
+  unfolding ledgerPasses
+  ledger-kept h = simp (rows-kept h, put-length l p a within)
+
+  -- what the two card tables share
+  table-kept : 16 ≤ a → (identifier size width mark : ℕ) → tablePasses identifier size width mark (put l a p) ≡ tablePasses identifier size width mark l
+  unfolding tablePasses
+  table-kept h identifier size width mark =
+      simp (put-length l p a within, same 0 2 (omega arith), same 4 4 (omega arith), same 10 2 (omega arith), getD-put-before l p a within 12 (omega arith), getD-put-before l p a within 13 (omega arith))
+
+  -- whether a title table passes
+  pub titles-kept : 16 ≤ a → titlesPass (put l a p) ≡ titlesPass l
+  unfolding titlesPass
+  titles-kept h = simp (table-kept h, getD-put-before l p a within 3 (omega arith), same 8 2 (omega arith))
+
+  -- whether a rule table passes
+  pub rules-kept : 32 ≤ a → rulesPass (put l a p) ≡ rulesPass l
+  unfolding rulesPass
+  rules-kept h = let k : 16 ≤ a = omega arith in simp (table-kept k, getD-put-before l p a within 3 (omega arith))
+
+  -- the rule table's application number
+  pub rules-application-kept : 32 ≤ a → rulesApplication (put l a p) ≡ rulesApplication l
+  rules-application-kept h = same 8 2 (omega arith)
+
+-- a part of the zeros behind a front
+pub zeros-part : (front : List ℕ) (n a m : ℕ) → length front ≤ a → a + m ≤ length front + n → part (front ++ replicate n 0) a m ≡ replicate m 0
+zeros-part front n a m h w =
+    ext-getD 0 (part all a m) (replicate m 0) (long ∙ sym (length-replicate m 0))
+    (λ i k.
+    let j : i < m = omega (arith, long) in
+    let e : a + i ≡ length front + (a + i - length front) = omega arith in
+    getD-part all a m i j
+    ∙ ap (λ (x : ℕ). getD all x 0) e
+    ∙ getD-append-add front (replicate n 0) (a + i - length front) 0
+    ∙ getD-replicate n (a + i - length front) 0 0 (omega arith)
+    ∙ sym (getD-replicate m i 0 0 j))
+  where
+    all : List ℕ
+    all = front ++ replicate n 0
+
+    long : length (part all a m) ≡ m
+    long = part-length a m all (omega (arith, length-append front (replicate n 0), length-replicate {A = ℕ} n 0))
+
+-- the fresh ledger
+module _ (rows application : ℕ) where
+  -- its length
+  pub fresh-ledger-length : length (freshLedger rows application) ≡ 24 * (rows + 1)
+  unfolding freshLedger
+  fresh-ledger-length = simp (length-append, length-bytesOf, length-replicate) (omega arith)
+
+  -- its application number
+  pub fresh-ledger-application : application < 2 ^ 16 → ledgerApplication (freshLedger rows application) ≡ application
+  unfolding freshLedger bytesOf
+  fresh-ledger-application h = number-whole 2 h
+
+  -- its count of rows
+  pub fresh-rows : rows < 2 ^ 16 → rowsOf (freshLedger rows application) ≡ rows
+  unfolding freshLedger bytesOf
+  fresh-rows h = number-whole 2 h
+
+  -- it passes
+  pub fresh-ledger-passes : 1 ≤ rows → rows ≤ 999 → ledgerPasses (freshLedger rows application) ≡ true
+  fresh-ledger-passes low high =
+      let e : rowsOf (freshLedger rows application) ≡ rows = fresh-rows (omega arith) in
+      ledger-passes (record { low = omega arith; high = omega arith; size = omega (arith, fresh-ledger-length) })
+
+  -- its rows are zeros
+  pub fresh-row : (c : ℕ) → 1 ≤ c → c ≤ rows → part (freshLedger rows application) (24 * c) 24 ≡ replicate 24 0
+  unfolding freshLedger
+  fresh-row c low high =
+      let e : length (bytesOf 2 application ++ bytesOf 2 rows) ≡ 4 = simp (length-append, length-bytesOf) in
+      ap (λ (l : List ℕ). part l (24 * c) 24) (sym (append-assoc (bytesOf 2 application) (bytesOf 2 rows) (replicate (20 + 24 * rows) 0)))
+      ∙ zeros-part (bytesOf 2 application ++ bytesOf 2 rows) (20 + 24 * rows) (24 * c) 24 (omega arith) (omega arith)
+
+-- a fresh card table: its head, version and application number, and zeros behind them
+record FreshTable (identifier version size application width mark : ℕ) (t : List ℕ) : Type 0 where
+  head : TableHead identifier size width mark t
+  dated : getD t 3 0 ≡ version
+  numbered : application < 2 ^ 16 → number (part t 8 2) ≡ application
+  zeros : (a m : ℕ) → 14 ≤ a → a + m ≤ size → part t a m ≡ replicate m 0
+
+fresh-table : (identifier version size application width mark n : ℕ) → identifier < 2 ^ 16 → size < 2 ^ 32 → 14 + n ≡ size
+    → FreshTable identifier version size application width mark (tableHead identifier version size application width mark ++ replicate n 0)
+unfolding tableHead bytesOf
+fresh-table identifier version size application width mark n h k e =
+    record {
+      head =
+          record {
+            long = omega (arith, length-replicate {A = ℕ} n 0);
+            names = number-whole 2 h;
+            sized = number-whole 4 k;
+            count = number-whole 2 (lit< tt);
+            wide = refl;
+            marked = refl;
+          };
+      dated = refl;
+      numbered = λ small. number-whole 2 small;
+      zeros = λ a m low high. zeros-part (tableHead identifier version size application width mark) n a m low (omega arith);
+    }
+
+titles-fresh : FreshTable 0x4131 0x10 16000 0 16 0x01 freshTitles
+unfolding freshTitles
+titles-fresh = fresh-table 0x4131 0x10 16000 0 16 0x01 15986 (lit< tt) (lit< tt) refl
+
+-- the length of the fresh title table
+pub fresh-titles-length : length freshTitles ≡ 16000
+fresh-titles-length = titles-fresh .head .long
+
+-- it passes
+pub fresh-titles-pass : titlesPass freshTitles ≡ true
+fresh-titles-pass = titles-pass (record { table = titles-fresh .head; version = inr (titles-fresh .dated); zero = titles-fresh .numbered (lit< tt) })
+
+-- its entries are zeros
+pub fresh-title : (j : ℕ) → 1 ≤ j → j ≤ 999 → part freshTitles (16 * j) 16 ≡ replicate 16 0
+fresh-title j low high = titles-fresh .zeros (16 * j) 16 (omega arith) (omega arith)
+
+-- the fresh rule table
+module _ (application : ℕ) where
+  rules-fresh : FreshTable 0x4D31 0x11 32000 application 32 0x02 (freshRules application)
+  unfolding freshRules
+  rules-fresh = fresh-table 0x4D31 0x11 32000 application 32 0x02 31986 (lit< tt) (lit< tt) refl
+
+  -- its length
+  pub fresh-rules-length : length (freshRules application) ≡ 32000
+  fresh-rules-length = rules-fresh .head .long
+
+  -- its application number
+  pub fresh-rules-application : application < 2 ^ 16 → rulesApplication (freshRules application) ≡ application
+  fresh-rules-application = rules-fresh .numbered
+
+  -- it passes
+  pub fresh-rules-pass : rulesPass (freshRules application) ≡ true
+  fresh-rules-pass = rules-pass (record { table = rules-fresh .head; version = omega (arith, rules-fresh .dated) })
+
+  -- its entries are zeros
+  pub fresh-rule : (j : ℕ) → 1 ≤ j → j ≤ 999 → part (freshRules application) (32 * j) 32 ≡ replicate 32 0
+  fresh-rule j low high = rules-fresh .zeros (32 * j) 32 (omega arith) (omega arith)

@@ -1,0 +1,18 @@
+-- `formats::rule::trigger` meets its contract.
+-- Assumes nothing.
+use native.Mathlib.Omega.{arith}
+use borrow.Author.Needs.{needs}
+use Rattle.formats.proofs.rule.trigger.Statement.{statement}
+use Rattle.formats.proofs.rule.trigger.Tie as tie
+
+shared-slice-read-result : tie.Need-shared-slice-read-result
+shared-slice-read-result c = search needs
+
+cast-result : tie.Need-cast-result
+cast-result c = omega (arith, c .shared-slice-known .given 16)
+
+returns : tie.Need-returns
+returns c = search needs
+
+pub trigger-spec : {M : Type 1} → statement M
+trigger-spec = tie.close (tie.spec shared-slice-read-result cast-result returns)

@@ -1,0 +1,25 @@
+-- "Facts are CCI, trigger, rights, permits, title key, STI key (keys below 2^56)."
+use Prim.Native.Nat.{ℕ, _^_}
+use mathlib.Core.Bool.{Bool, not, _&&_}
+use lib.Dec.{leb, ltb, eqb}
+use Rattle.formats.specs.declared.facts.Facts.{Facts}
+
+-- "CCI is 0, 2 or 3"
+abbrev pub cciPasses : ℕ → Bool
+cciPasses v = leb v 3 && not (eqb v 1)
+
+-- "trigger at most 1"
+abbrev pub triggerPasses : ℕ → Bool
+triggerPasses v = leb v 1
+
+-- "rights and permits at most 15"
+abbrev pub countPasses : ℕ → Bool
+countPasses v = leb v 15
+
+-- "keys below 2^56"
+abbrev pub keyPasses : ℕ → Bool
+keyPasses v = ltb v (2 ^ 56)
+
+-- the ranges that a row's facts keep; its keys are seven bytes each
+unfoldable pub inRange : Facts → Bool
+inRange f = cciPasses (f .cci) && (triggerPasses (f .trigger) && (countPasses (f .rights) && countPasses (f .permits)))

@@ -1,0 +1,32 @@
+-- What title halves and rule halves have in common: key, flag and content ID in their first 16 bytes.
+use Prim.Native.Nat.{ℕ, _+_, _*_, _/_, _%_}
+use mathlib.Core.List.{List, [], _∷_, _++_}
+use mathlib.Core.Bool.{Bool, not, _&&_}
+use lib.ListN.{getD}
+use lib.Dec.{leb, eqb}
+use Rattle.formats.specs.Part.{part, put}
+use Rattle.formats.specs.Field.{number, bytesOf}
+
+-- "1-7 the title key", "1-7 the track information (STI) key"
+abbrev pub keyOf : List ℕ → ℕ
+keyOf h = number (part h 1 7)
+
+-- "The availability flag is the top bit of byte 8"
+abbrev pub flagOf : List ℕ → Bool
+flagOf h = leb 128 (getD h 8 0)
+
+-- "the content ID is the low ten bits of bytes 14 and 15"
+abbrev pub idOf : List ℕ → ℕ
+idOf h = getD h 14 0 % 4 * 256 + getD h 15 0
+
+-- "A half is usable if its flag is 1 and its content ID is not 0."
+unfoldable pub usableOf : List ℕ → Bool
+usableOf h = flagOf h && not (eqb (idOf h) 0)
+
+-- "A written half gets its fields, flag 1, ID c, all reserved bits 0": the first 16 bytes
+unfoldable pub halfBytes : ℕ → ℕ → ℕ → List ℕ
+halfBytes first key id = first ∷ (bytesOf 7 key ++ (128 ∷ 0 ∷ 0 ∷ 0 ∷ 0 ∷ 0 ∷ id / 256 % 4 ∷ id % 256 ∷ []))
+
+-- "bytes 0-7 set to f1 and its flag 0 .. A wipe changes nothing else."
+unfoldable pub wiped : List ℕ → ℕ → List ℕ
+wiped h f = put h 0 (bytesOf 8 f ++ (getD h 8 0 % 128 ∷ []))

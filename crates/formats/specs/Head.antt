@@ -1,0 +1,74 @@
+-- The heads of the ledger and of the two card tables, and the tables as formatting leaves them.
+use Prim.Native.Nat.{ℕ, _+_, _*_}
+use mathlib.Core.List.{List, [], _∷_, _++_}
+use mathlib.Core.Bool.{Bool, _&&_, _||_}
+use lib.ListN.{length, getD, replicate}
+use lib.Dec.{leb, eqb}
+use Rattle.formats.specs.Refusal.{unless}
+use Rattle.formats.specs.Part.{part}
+use Rattle.formats.specs.Field.{number, bytesOf}
+
+-- "Head: bytes 0-1 the application number, 2-3 R"
+abbrev pub ledgerApplication : List ℕ → ℕ
+ledgerApplication l = number (part l 0 2)
+
+abbrev pub rowsOf : List ℕ → ℕ
+rowsOf l = number (part l 2 2)
+
+-- "24 × (R + 1) bytes, R from 1 to 999"
+unfoldable pub ledgerPasses : List ℕ → Bool
+ledgerPasses l = leb 1 (rowsOf l) && (leb (rowsOf l) 999 && eqb (length l) (24 * (rowsOf l + 1)))
+
+-- what the two card tables share: the length, bytes 0-1 the identifier, 4-7 the size, 10-11 the count 999,
+-- byte 12 the length of an entry and byte 13 a mark
+unfoldable pub tablePasses : ℕ → ℕ → ℕ → ℕ → List ℕ → Bool
+tablePasses identifier size width mark t =
+    eqb (length t) size
+    && (eqb (number (part t 0 2)) identifier
+    && (eqb (number (part t 4 4)) size && (eqb (number (part t 10 2)) 999 && (eqb (getD t 12 0) width && eqb (getD t 13 0) mark))))
+
+-- "A1" .. "byte 3 version 09h or 10h; 4-7 the size 16,000; 8-9 zero; 10-11 the count 999; 12 is 16; 13 is 01h"
+unfoldable pub titlesPass : List ℕ → Bool
+titlesPass t =
+    tablePasses 0x4131 16000 16 0x01 t
+    && ((eqb (getD t 3 0) 0x09 || eqb (getD t 3 0) 0x10) && eqb (number (part t 8 2)) 0)
+
+-- "M1" .. "byte 3 version 11h or more (later ones are no error); 4-7 the size 32,000; .. 12 is 32; 13 is 02h"
+unfoldable pub rulesPass : List ℕ → Bool
+rulesPass r = tablePasses 0x4D31 32000 32 0x02 r && leb 0x11 (getD r 3 0)
+
+-- "8-9 the application number"
+abbrev pub rulesApplication : List ℕ → ℕ
+rulesApplication r = number (part r 8 2)
+
+-- "7 ledger length or head wrong"
+abbrev pub ledgerAnswer : List ℕ → ℕ
+ledgerAnswer l = unless (ledgerPasses l) 7
+
+-- "8 title table length or head wrong"
+abbrev pub titlesAnswer : List ℕ → ℕ
+titlesAnswer t = unless (titlesPass t) 8
+
+-- "9 rule table likewise" (a tally, without ledger, skips the application number)
+abbrev pub rulesAnswer : List ℕ → ℕ
+rulesAnswer r = unless (rulesPass r) 9
+
+-- "its application number other than the ledger's included"
+abbrev pub rulesAnswerFor : ℕ → List ℕ → ℕ
+rulesAnswerFor application r = unless (rulesPass r && eqb (rulesApplication r) application) 9
+
+-- "Formatting a ledger or card writes a fresh one: heads as above (versions 10h, 11h), everything ignored zero,
+-- all rows and entries zero."
+unfoldable pub freshLedger : ℕ → ℕ → List ℕ
+freshLedger rows application = bytesOf 2 application ++ (bytesOf 2 rows ++ replicate (20 + 24 * rows) 0)
+
+-- bytes 0 to 13 of a card table's head
+unfoldable pub tableHead : ℕ → ℕ → ℕ → ℕ → ℕ → ℕ → List ℕ
+tableHead identifier version size application width mark =
+    bytesOf 2 identifier ++ (0 ∷ version ∷ (bytesOf 4 size ++ (bytesOf 2 application ++ (bytesOf 2 999 ++ (width ∷ mark ∷ [])))))
+
+unfoldable pub freshTitles : List ℕ
+freshTitles = tableHead 0x4131 0x10 16000 0 16 0x01 ++ replicate 15986 0
+
+unfoldable pub freshRules : ℕ → List ℕ
+freshRules application = tableHead 0x4D31 0x11 32000 application 32 0x02 ++ replicate 31986 0

@@ -1,0 +1,13 @@
+pub mod Refusal
+pub mod Part
+pub mod Field
+pub mod Number
+pub mod Facts
+pub mod Half
+pub mod Title
+pub mod Rule
+pub mod Entry
+pub mod Head
+pub mod Row
+pub mod Request
+pub mod Packed

@@ -1,0 +1,12 @@
+-- The ways into and out of a table: a part of its bytes, and the table with other bytes in a part's place.
+use Prim.Native.Nat.{ℕ, _+_}
+use mathlib.Core.List.{List, _++_}
+use lib.ListN.{length, take, drop}
+
+-- "the part of its table that it occupies": the n bytes of l from place a on
+abbrev pub part : List ℕ → ℕ → ℕ → List ℕ
+part l a n = take n (drop a l)
+
+-- l with the bytes p from place a on, instead of what stood there
+unfoldable pub put : List ℕ → ℕ → List ℕ → List ℕ
+put l a p = take a l ++ (p ++ drop (a + length p) l)

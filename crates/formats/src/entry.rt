@@ -1,0 +1,44 @@
+// What the two halves of an entry are together.
+ghost use mathlib.Core.Path.{_≡_};
+ghost use lib.ListN.{length};
+ghost use Rattle.formats.specs.Entry.{kindOf};
+use crate::half;
+use crate::title;
+
+pub enum EntryKind {
+    // No half is usable.
+    Free,
+    // Only the title half is usable: a loan copy.
+    Copy,
+    // Both halves are usable: the title lives here.
+    Full,
+    // Anything else. It serves for nothing, and is not free.
+    Torn,
+}
+
+// The title half is tested first: where it is not usable, only the rule half's flag and ID are looked at.
+pub fn kind(title: &[u8], rule: &[u8]) -> EntryKind
+    requires { ⌜ (length (now title) ≡ 16) × (length (now rule) ≡ 32) ⌝ }
+    ensures { λ r. ⌜ r ≡ kindOf (now (title .entry)) (now (rule .entry)) ⌝ }
+{
+    let id = half::content_id(title).0;
+    if !half::usable(title) {
+        if half::usable(rule) {
+            return EntryKind::Torn;
+        }
+        return EntryKind::Free;
+    }
+    if 999 < id {
+        return EntryKind::Torn;
+    }
+    if title::cci(title) == 1 {
+        return EntryKind::Torn;
+    }
+    if !half::usable(rule) {
+        return EntryKind::Copy;
+    }
+    if half::content_id(rule).0 == id {
+        return EntryKind::Full;
+    }
+    EntryKind::Torn
+}

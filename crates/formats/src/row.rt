@@ -1,0 +1,122 @@
+// A row of the ledger: the 24 bytes of it that a title has.
+ghost use mathlib.Core.Path.{_≡_};
+ghost use lib.ListN.{length};
+ghost use Rattle.formats.specs.Facts.{inRange};
+ghost use Rattle.formats.specs.Row.{factsOf, stateOf, hereRow, plainRow, withPermits};
+use crate::facts::Facts;
+use crate::field;
+
+pub enum RowState {
+    Empty,
+    // The title lives in the ledger, with these facts.
+    Here(Facts),
+    // It lives on the card.
+    Away,
+    // It was deleted, and its row is not used again.
+    Gone,
+    // Bytes that are no state.
+    NoState,
+}
+
+// The states' numbers in byte 0.
+pub const EMPTY: u8 = 0;
+
+pub const HERE: u8 = 1;
+
+pub const AWAY: u8 = 2;
+
+pub const GONE: u8 = 3;
+
+fn in_range(facts: Facts) -> bool
+    ensures { λ r. ⌜ r ≡ inRange facts ⌝ }
+{
+    if 3 < facts.cci {
+        return false;
+    }
+    if facts.cci == 1 {
+        return false;
+    }
+    if 1 < facts.trigger {
+        return false;
+    }
+    if 15 < facts.rights {
+        return false;
+    }
+    facts.permits <= 15
+}
+
+fn facts(row: &[u8]) -> Facts
+    requires { ⌜ length (now row) ≡ 24 ⌝ }
+    ensures { λ r. ⌜ r ≡ factsOf (now (row .entry)) ⌝ }
+{
+    Facts {
+        cci: row[1] as u64,
+        trigger: row[2] as u64,
+        rights: row[3] as u64,
+        permits: row[4] as u64,
+        title_key: field::read(&row[8..15]),
+        sti_key: field::read(&row[16..23]),
+    }
+}
+
+pub fn state(row: &[u8]) -> RowState
+    requires { ⌜ length (now row) ≡ 24 ⌝ }
+    ensures { λ r. ⌜ r ≡ stateOf (now (row .entry)) ⌝ }
+{
+    let first = row[0];
+    if first == EMPTY {
+        return RowState::Empty;
+    }
+    if first == HERE {
+        let facts = facts(row);
+        if in_range(facts) {
+            return RowState::Here(facts);
+        }
+        return RowState::NoState;
+    }
+    if first == AWAY {
+        return RowState::Away;
+    }
+    if first == GONE {
+        return RowState::Gone;
+    }
+    RowState::NoState
+}
+
+// Writes all 24 bytes of a row that is here.
+pub fn write_here(row: &mut [u8], facts: Facts)
+    requires { ⌜ length (now row) ≡ 24 ⌝ }
+    ensures { λ _. ⌜ now (row .exit) ≡ hereRow facts ⌝ }
+{
+    row[0] = HERE;
+    row[1] = field::byte_at(facts.cci, 0);
+    row[2] = field::byte_at(facts.trigger, 0);
+    row[3] = field::byte_at(facts.rights, 0);
+    row[4] = field::byte_at(facts.permits, 0);
+    field::write(&mut row[5..8], 0);
+    field::write(&mut row[8..15], facts.title_key);
+    row[15] = 0;
+    field::write(&mut row[16..23], facts.sti_key);
+    row[23] = 0;
+}
+
+// Writes all 24 bytes of a row in another state: its number, and zeros.
+pub fn write_plain(row: &mut [u8], state: u8)
+    requires { ⌜ length (now row) ≡ 24 ⌝ }
+    ensures { λ _. ⌜ now (row .exit) ≡ plainRow state ⌝ }
+{
+    row[0] = state;
+    let mut i: usize = 1;
+    while i < 24 {
+        row[i] = 0;
+        i += 1;
+    }
+}
+
+// Writes byte 4 and no other.
+pub fn write_permits(row: &mut [u8], permits: u64)
+    requires { ⌜ length (now row) ≡ 24 ⌝ }
+    ensures { λ _. ⌜ now (row .exit) ≡ withPermits (now (row .entry)) permits ⌝ }
+{
+    row[4] = field::byte_at(permits, 0);
+}
