@@ -1,9 +1,17 @@
 # make demo: the counter on document 01's example. make test: every test, and the proofs last.
-.PHONY: demo test
+.PHONY: demo test expected
 
 demo:
 	@echo "There is no program yet: this delivery is the library of byte formats. 'make test' proves and tests it."
 
-test:
+test: expected
 	rt fmt --check
 	rt ci
+
+# What the test program must print, worked out from the paper by a program of its own.
+expected: target/host/edges
+	target/host/edges | cmp - crates/edges/stdout
+
+target/host/edges: host/edges/main.rs
+	@mkdir -p target/host
+	rustc --edition 2021 -O -o $@ $<

@@ -1,11 +1,11 @@
 -- The masks and shifts of the layouts, as division and remainder.
 -- Assumes nothing.
 use Prim.Native.Nat.{ℕ, _+_, _*_, _/_, _%_, _^_, _<_, _≤_}
-use mathlib.Core.Path.{_≡_, sym, ap, _∙_}
-use mathlib.Core.Bool.{Bool, not}
+use mathlib.Core.Path.{_≡_, ap, _∙_}
+use mathlib.Core.Bool.{not}
 use native.Mathlib.Omega.{arith}
 use native.Mathlib.Decide.{decLe}
-use lib.Dec.{leb, eqb, lit≤}
+use lib.Dec.{leb, eqb}
 use lib.Bits.{bitAnd, bitOr, and-mask, and-high, or-shifted}
 use lib.Pow.{shl-exact}
 use borrow.Author.Tests.{le-leb, lt-leb, eq-eqb, ne-eqb}

@@ -1,4 +1,4 @@
-pub mod Parts
+pub mod Part
 pub mod Cells
 pub mod Tests
 pub mod Bits

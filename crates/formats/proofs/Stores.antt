@@ -8,7 +8,7 @@ use native.Mathlib.Numerals.{add-one}
 use lib.ListN.{length, take, drop, set, length-set, length-take, length-append, take-append-drop}
 use lib.Seq.{take-suc-set, drop-set-lt, drop-drop, append-snoc, take-at, drop-at}
 use Rattle.formats.specs.Part.{put}
-use Rattle.formats.proofs.Parts.{put-length}
+use Rattle.formats.proofs.Part.{put-length}
 
 -- out was out₀; of the bytes w, those before place i stand in it, from place a on, and those in `left` are still to be stored
 pub record Storing (w out₀ : List ℕ) (a : ℕ) (out : List ℕ) (i : ℕ) (left : List ℕ) : Type 0 where

@@ -9,7 +9,7 @@ use lib.ListN.{length, set, length-append, take-append-drop}
 use borrow.Rule.Slice.PartMut.{putMid}
 use Rattle.formats.specs.Part.{part, put}
 use Rattle.formats.specs.Field.{bytesOf}
-use Rattle.formats.proofs.Parts.{part-length, put-length, put-next, set-put, back}
+use Rattle.formats.proofs.Part.{part-length, put-length, put-next, set-put, back}
 use Rattle.formats.proofs.field.Laws.{length-bytesOf}
 
 -- the slice was `before`; the bytes p stand in it from place b up to place e

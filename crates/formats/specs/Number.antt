@@ -1,6 +1,6 @@
 -- "A number is groups of seven bits, low group first, top bit set in all bytes but the last."
 use Prim.Native.Nat.{ℕ, zero, suc, _+_, _-_, _*_, _/_, _%_}
-use mathlib.Core.List.{List, [], _∷_, _++_}
+use mathlib.Core.List.{List, [], _∷_}
 use mathlib.Core.Bool.{Bool, true, false, cond}
 use lib.ListN.{length}
 use lib.Dec.{ltb, eqb}
@@ -41,15 +41,23 @@ readFrom i (b ∷ s) =
 unfoldable pub readNumber : List ℕ → NumberRead
 readNumber s = readFrom 0 s
 
--- the paper's number for what reading found: 0 is done
+-- the paper's number of each case of a reading, and its values: the number and the count of its bytes
 abbrev pub readAnswer : NumberRead → ℕ
 readAnswer (Number v k) = 0
 readAnswer (Refused w) = w
 
--- the paper's number for what writing answered
+abbrev pub readValues : NumberRead → List ℕ
+readValues (Number v k) = v ∷ k ∷ []
+readValues (Refused w) = []
+
+-- the paper's number of each case of a writing, and its value: the count of bytes written
 abbrev pub writeAnswer : Written → ℕ
 writeAnswer (Wrote n) = 0
 writeAnswer (NotWritten w) = w
+
+abbrev pub writeValues : Written → List ℕ
+writeValues (Wrote n) = n ∷ []
+writeValues (NotWritten w) = []
 
 -- "1 .. the buffer for a written request is too short"; "done, it changes the first n bytes and answers n":
 -- the answer of writing the bytes w into a buffer `out`

@@ -157,10 +157,14 @@ readRequest s =
     onKind (readNumber s)
     (λ kind k. cond (eqb (kindLimit kind) 0) (asRequest kind k (readArguments (schema kind) (drop k s))) (Refused (kindLimit kind)))
 
--- the paper's number for what reading a request found: 0 is done
+-- the paper's number of each case of reading a request, and its values: the kind and the arguments
 abbrev pub requestAnswer : RequestRead → ℕ
 requestAnswer (Read q k) = 0
 requestAnswer (Refused w) = w
+
+abbrev pub requestValues : RequestRead → List ℕ
+requestValues (Read q k) = kindOf q ∷ valuesOf q
+requestValues (Refused w) = []
 
 -- "A read request comes with the unread remainder ..; on a refusal the remainder is all of them."
 abbrev pub remainderOf : List ℕ → RequestRead → List ℕ

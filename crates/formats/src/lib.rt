@@ -6,6 +6,7 @@ pub mod field;
 pub mod half;
 pub mod head;
 pub mod number;
+pub mod reading;
 pub mod refusal;
 pub mod request;
 pub mod row;

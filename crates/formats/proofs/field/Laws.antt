@@ -11,7 +11,7 @@ use lib.Seq.{drop-cons, take-suc}
 use lib.Pow.{pow-add, pow-mono, mod-pow-add}
 use Rattle.formats.specs.Part.{part}
 use Rattle.formats.specs.Field.{number, bytesOf}
-use Rattle.formats.proofs.Parts.{part-length, put-whole}
+use Rattle.formats.proofs.Part.{part-length, put-whole}
 use Rattle.formats.proofs.Stores.{Storing, store, start as store-start, done as store-done}
 
 pub length-bytesOf : (n x : ℕ) → length (bytesOf n x) ≡ n

@@ -14,7 +14,7 @@ use borrow.Author.Tests.{lt-leb, ne-eqb, eqb-false, not-true}
 use Rattle.formats.specs.Part.{put}
 use Rattle.formats.specs.Field.{number, bytesOf}
 use Rattle.formats.specs.Half.{keyOf, flagOf, idOf, usableOf, halfBytes, wiped}
-use Rattle.formats.proofs.Parts.{put-length, getD-put-before, part-put-before}
+use Rattle.formats.proofs.Part.{put-length, getD-put-before, part-put-before}
 use Rattle.formats.proofs.field.Laws.{length-bytesOf, number-bytesOf}
 
 -- the first bytes of a written half are 16

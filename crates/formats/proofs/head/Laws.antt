@@ -13,7 +13,7 @@ use borrow.Author.Tests.{le-leb, leb-true, eq-eqb, eqb-true, not-true, not-false
 use Rattle.formats.specs.Part.{part, put}
 use Rattle.formats.specs.Field.{number, bytesOf}
 use Rattle.formats.specs.Head.{ledgerApplication, rowsOf, ledgerPasses, tablePasses, titlesPass, rulesPass, rulesApplication, ledgerAnswer, titlesAnswer, rulesAnswer, rulesAnswerFor, freshLedger, tableHead, freshTitles, freshRules}
-use Rattle.formats.proofs.Parts.{part-length, getD-part, put-length, part-put-before, getD-put-before}
+use Rattle.formats.proofs.Part.{part-length, getD-part, put-length, part-put-before, getD-put-before}
 use Rattle.formats.proofs.field.Laws.{length-bytesOf, number-whole}
 use Rattle.formats.proofs.Tests.{split, both, either, one-holds, refuses}
 

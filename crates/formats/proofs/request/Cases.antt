@@ -1,6 +1,6 @@
 -- The cases of reading a request: its kind, and argument after argument.
 -- Assumes nothing.
-use Prim.Native.Nat.{ℕ, _+_}
+use Prim.Native.Nat.{ℕ}
 use mathlib.Core.Path.{_≡_}
 use mathlib.Core.List.{List, _∷_}
 use borrow.Author.Tests.{eq-eqb, ne-eqb}

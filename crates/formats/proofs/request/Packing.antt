@@ -1,6 +1,6 @@
 -- The loops over a request's arguments: what is left of a packed schema, and the values beside it.
 -- Assumes nothing.
-use Prim.Native.Nat.{ℕ, zero, suc, _+_, _-_, _*_, _/_, _%_, _≤_, _<_}
+use Prim.Native.Nat.{ℕ, _+_, _-_, _*_, _/_, _%_, _≤_, _<_}
 use mathlib.Core.Path.{_≡_, refl, sym, ap, _∙_}
 use mathlib.Core.List.{List, [], _∷_, _++_}
 use mathlib.Core.Bool.{Bool, true, false, cond}
@@ -20,7 +20,7 @@ use Rattle.formats.specs.declared.request.Request.{Request}
 use Rattle.formats.specs.declared.request.Request.the-variants.{Register, Record, CheckOut, CheckIn, MoveOut, MoveIn, Delete}
 use Rattle.formats.specs.Part.{put}
 use Rattle.formats.proofs.Bits.{low-four}
-use Rattle.formats.proofs.Parts.{put-next}
+use Rattle.formats.proofs.Part.{put-next}
 use Rattle.formats.proofs.Stores.{Storing, store-all, done as store-done}
 
 -- an argument's four bits stand for it

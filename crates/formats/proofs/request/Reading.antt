@@ -1,8 +1,8 @@
 -- What the loop of `read_arguments` keeps: the values read so far, and what is left to read.
 -- Assumes nothing.
-use Prim.Native.Nat.{ℕ, zero, suc, _+_, _-_, _*_, _/_, _%_, _≤_, _<_}
+use Prim.Native.Nat.{ℕ, zero, suc, _+_, _-_, _/_, _≤_, _<_}
 use mathlib.Core.Path.{_≡_, refl, sym, ap, ap₂, _∙_}
-use mathlib.Core.List.{List, [], _∷_, _++_, append-assoc, append-nil}
+use mathlib.Core.List.{List, [], _∷_, _++_, append-nil}
 use native.Mathlib.Omega.{arith}
 use native.Mathlib.Numerals.{add-one}
 use lib.Bits.{bitAnd}
@@ -16,7 +16,7 @@ use Rattle.formats.specs.declared.number.NumberRead.the-variants.{Number
 use Rattle.formats.specs.declared.request.Argument.{Argument}
 use Rattle.formats.specs.declared.request.Arguments.{Arguments}
 use Rattle.formats.proofs.number.Laws.{read-within}
-use Rattle.formats.proofs.request.Packing.{Left, Next, next, none, start}
+use Rattle.formats.proofs.request.Packing.{Left, next, none, start}
 use Rattle.formats.specs.declared.request.Request.{Request}
 use Rattle.formats.specs.declared.request.RequestRead.the-variants.{Read, Refused as RequestRefused}
 use Rattle.formats.proofs.request.Cases.{argument-refused, argument-limit, argument-value, kind-value}

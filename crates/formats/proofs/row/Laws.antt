@@ -18,7 +18,7 @@ use Rattle.formats.specs.declared.row.RowState.{RowState}
 use Rattle.formats.specs.declared.row.RowState.the-variants.{Empty, Here, Away, Gone, NoState}
 use Rattle.formats.specs.declared.facts.Facts.{Facts}
 use Rattle.formats.proofs.field.Laws.{length-bytesOf, bytesOf-zero, number-whole, number-below}
-use Rattle.formats.proofs.Parts.{put-length}
+use Rattle.formats.proofs.Part.{put-length}
 use Rattle.formats.proofs.Cells.{cells, of-cells}
 use Rattle.formats.proofs.Tests.{split, both}
 

@@ -11,7 +11,7 @@ use Rattle.formats.specs.Half.{halfBytes, wiped}
 use Rattle.formats.specs.Rule.{triggerOf, rightsOf, permitsOf, hashOf, ruleHalf, wipedRule}
 use Rattle.formats.specs.declared.facts.Facts.{Facts}
 use Rattle.formats.specs.declared.facts.Fillers.{Fillers}
-use Rattle.formats.proofs.Parts.{put-length, part-put-same}
+use Rattle.formats.proofs.Part.{put-length, part-put-same}
 use Rattle.formats.proofs.field.Laws.{length-bytesOf, number-whole}
 use Rattle.formats.proofs.half.Laws.{length-halfBytes, Written, half-written, Wiped, half-wiped, still-wiped, wiped-length}
 

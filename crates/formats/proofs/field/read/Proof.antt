@@ -1,7 +1,7 @@
 -- `formats::field::read` meets its contract: the loop keeps the number of the bytes passed.
 -- Assumes nothing.
 use Prim.Native.Nat.{_-_, _≤_}
-use mathlib.Core.Path.{_≡_, ap, _∙_}
+use mathlib.Core.Path.{ap, _∙_}
 use native.Mathlib.Omega.{arith}
 use denote.Ref.{now}
 use lib.Dec.{lit≤}
@@ -12,8 +12,6 @@ use Rattle.formats.proofs.Bits.{joined}
 use Rattle.formats.proofs.field.Laws.{Reading, read-start, read-next, read-fits}
 use Rattle.formats.proofs.field.read.Statement.{statement}
 use Rattle.formats.proofs.field.read.Tie as tie
-use Rattle.formats.proofs.field.read.Reads as reads
-use Rattle.formats.proofs.field.read.Lts as lts
 
 abbrev Inv-loop : tie.InvT-loop
 Inv-loop field value₀ i₀ value i = (i ≤ length field) × Reading field value i

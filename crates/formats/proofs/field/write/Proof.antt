@@ -1,16 +1,11 @@
 -- `formats::field::write` meets its contract: the loop stores the bytes of x one by one.
 -- Assumes nothing.
-use Prim.Native.Nat.{ℕ, suc, _-_}
-use mathlib.Core.Path.{_≡_, ap, _∙_}
+use Prim.Native.Nat.{_-_}
 use native.Mathlib.Omega.{arith}
-use denote.Ref.{now}
 use lib.ListN.{length}
 use Rattle.formats.proofs.field.Laws.{Writing, write-start, write-next, write-done}
 use Rattle.formats.proofs.field.write.Statement.{statement}
 use Rattle.formats.proofs.field.write.Tie as tie
-use Rattle.formats.proofs.field.write.Reads as reads
-use Rattle.formats.proofs.field.write.Lts as lts
-use Rattle.formats.proofs.field.byte_at.Reads as byte-at-reads
 
 abbrev Inv-loop : tie.InvT-loop
 Inv-loop field₀ x i₀ field i = Writing field₀ x field i

@@ -11,7 +11,7 @@ use Rattle.formats.specs.Part.{put}
 use Rattle.formats.specs.Field.{bytesOf}
 use Rattle.formats.specs.Half.{wiped}
 use Rattle.formats.proofs.Bits.{low-seven}
-use Rattle.formats.proofs.Parts.{set-put, puts-apart, put-next}
+use Rattle.formats.proofs.Part.{set-put, puts-apart, put-next}
 use Rattle.formats.proofs.Writes.{wrote-start, wrote-field}
 use Rattle.formats.proofs.field.Laws.{length-bytesOf}
 use Rattle.formats.proofs.half.wipe.Statement.{statement}

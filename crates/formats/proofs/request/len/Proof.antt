@@ -1,6 +1,6 @@
 -- `formats::request::len` meets its contract: the bytes counted and those of the numbers left make up the written form.
 -- Assumes nothing.
-use mathlib.Core.Path.{_≡_, ap, _∙_}
+use mathlib.Core.Path.{ap, _∙_}
 use mathlib.Core.List.{_++_}
 use native.Mathlib.Omega.{arith}
 use borrow.Author.Needs.{needs}

@@ -3,7 +3,7 @@
 use mathlib.Core.Path.{refl, _∙_}
 use native.Mathlib.Omega.{arith}
 use borrow.Author.Needs.{needs}
-use Rattle.formats.specs.Request.{schema, limitOf}
+use Rattle.formats.specs.Request.{schema}
 use Rattle.formats.proofs.request.Packing.{start, within, schema-size, nine, limit-is, Limiting, limit-met, limit-kept, limit-none}
 use Rattle.formats.proofs.request.limit.Statement.{statement}
 use Rattle.formats.proofs.request.limit.Tie as tie

@@ -5,8 +5,7 @@ use native.Mathlib.Omega.{arith}
 use borrow.Author.Needs.{needs}
 use denote.Ref.{now}
 use Prim.Native.Nat.{ℕ}
-use lib.ListN.{length-drop}
-use lib.ListN.{drop}
+use lib.ListN.{length-drop, drop}
 use Rattle.formats.specs.Number.{readAnswer}
 use Rattle.formats.specs.Request.{schema, Fault}
 use Rattle.formats.specs.Packed.{argumentsAnswer}

@@ -1,6 +1,5 @@
 -- `formats::request::request_of` meets its contract.
 -- Assumes nothing.
-use mathlib.Core.Path.{sym, ap, _∙_}
 use borrow.Author.Needs.{needs}
 use borrow.Author.Tests.{ne-eqb}
 use Rattle.formats.specs.Request.{requestOf}

@@ -1,20 +1,15 @@
 -- `formats::request::store` meets its contract: the loop puts the numbers one after the other.
 -- Assumes nothing.
-use Prim.Native.Nat.{_+_, _≤_}
-use mathlib.Core.Path.{_≡_, refl, sym, ap, _∙_}
-use mathlib.Core.List.{_++_}
+use mathlib.Core.Path.{ap, _∙_}
 use native.Mathlib.Omega.{arith}
 use borrow.Author.Needs.{needs}
 use denote.Ref.{now}
-use lib.ListN.{length, drop, length-append}
-use Rattle.formats.specs.Number.{groups}
+use lib.ListN.{length, length-append}
 use Rattle.formats.specs.Request.{schema}
 use Rattle.formats.proofs.Stores.{start as store-start}
 use Rattle.formats.proofs.request.Packing.{start, within, schema-size, nine, numbersFor, written-is, Putting, room-next, put-number, put-done, put-written}
 use Rattle.formats.proofs.request.store.Statement.{statement}
 use Rattle.formats.proofs.request.store.Tie as tie
-use Rattle.formats.proofs.request.store.Reads as reads
-use Rattle.formats.proofs.request.store.Lts as lts
 
 abbrev Inv-loop : tie.InvT-loop
 Inv-loop out₀ kind values left₀ at₀ i₀ out left at i = Putting (schema kind) values out₀ at₀ out left at i

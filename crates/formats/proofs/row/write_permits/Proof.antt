@@ -7,7 +7,7 @@ use native.Mathlib.Omega.{arith}
 use denote.Ref.{now}
 use Rattle.formats.specs.Part.{put}
 use Rattle.formats.specs.Row.{withPermits}
-use Rattle.formats.proofs.Parts.{set-put}
+use Rattle.formats.proofs.Part.{set-put}
 use Rattle.formats.proofs.field.Laws.{low-byte}
 use borrow.Author.Needs.{needs}
 use Rattle.formats.proofs.row.write_permits.Statement.{statement}

@@ -15,7 +15,7 @@ use Rattle.formats.proofs.Bits.{low-one}
 use Rattle.formats.proofs.Writes.{Wrote, wrote-byte, wrote-field}
 use Rattle.formats.proofs.field.Laws.{bytesOf-zero}
 use Rattle.formats.proofs.rule.Laws.{length-ruleHalf}
-use Rattle.formats.proofs.Parts.{put-whole}
+use Rattle.formats.proofs.Part.{put-whole}
 use Rattle.formats.proofs.half.Laws.{length-halfBytes}
 use Rattle.formats.proofs.rule.write.Statement.{statement}
 use Rattle.formats.proofs.rule.write.Tie as tie

@@ -8,7 +8,7 @@ use borrow.Author.Needs.{needs}
 use Rattle.formats.specs.Half.{halfBytes}
 use Rattle.formats.specs.Title.{titleHalf}
 use Rattle.formats.proofs.Bits.{low-two}
-use Rattle.formats.proofs.Parts.{put-whole}
+use Rattle.formats.proofs.Part.{put-whole}
 use Rattle.formats.proofs.half.Laws.{length-halfBytes}
 use Rattle.formats.proofs.title.write.Statement.{statement}
 use Rattle.formats.proofs.title.write.Tie as tie

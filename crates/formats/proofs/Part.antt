@@ -1,13 +1,12 @@
 -- The laws of `part` and `put`: the same place, places apart, lengths, puts one after the other, and parts that were lent.
 -- Assumes nothing.
-use Prim.Native.Nat.{ℕ, zero, suc, _+_, _-_, _≤_, _<_}
+use Prim.Native.Nat.{ℕ, _+_, _-_, _≤_, _<_}
 use mathlib.Core.Path.{_≡_, refl, sym, ap, _∙_}
-use mathlib.Core.List.{List, [], _∷_, _++_}
+use mathlib.Core.List.{List, [], _∷_, _++_, append-nil}
 use native.Mathlib.Decide.{decLt}
 use native.Mathlib.Numerals.{add-one}
 use native.Mathlib.Omega.{arith}
-use lib.ListN.{length, take, drop, set, getD, length-take, length-drop, length-append, take-append-drop, List·getD-append, drop-of-length-le}
-use mathlib.Core.List.{append-nil}
+use lib.ListN.{length, take, drop, set, getD, length-take, length-drop, length-append, List·getD-append, drop-of-length-le}
 use lib.Seq.{drop-drop, getD-take, getD-drop, getD-append-add, length-take-le, ext-getD, set-split}
 use borrow.Rule.Slice.PartMut.{putMid}
 use Rattle.formats.specs.Part.{part, put}
