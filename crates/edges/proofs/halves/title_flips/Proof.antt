@@ -1,0 +1,35 @@
+-- `edges::halves::title_flips` is safe and ends. There are 128 turns.
+-- Assumes nothing.
+use Prim.Native.Nat.{_≤_, _-_}
+use borrow.Author.Needs.{needs}
+use Rattle.edges.proofs.halves.title_flips.Statement.{statement}
+use Rattle.edges.proofs.halves.title_flips.Tie as tie
+
+abbrev Inv-loop : tie.InvT-loop
+Inv-loop start place₀ place = place ≤ 128
+
+abbrev μ-loop : tie.MeasureT-loop
+μ-loop start place₀ place = 128 - place
+
+loop-holds : tie.Need-loop-holds Inv-loop μ-loop
+loop-holds c = search needs
+
+title-flip-requires : tie.Need-title-flip-requires Inv-loop μ-loop
+title-flip-requires c κs = search needs
+
+add-place : tie.Need-add-place Inv-loop μ-loop
+add-place c = search needs
+
+loop-less : tie.Need-loop-less Inv-loop μ-loop
+loop-less c = search needs
+
+loop-again : tie.Need-loop-again Inv-loop μ-loop
+loop-again c = search needs
+
+returns : tie.Need-returns Inv-loop μ-loop
+returns c = search needs
+
+pub title-flips-spec : {M : Type 1} → statement M
+title-flips-spec =
+    tie.close
+    (tie.spec Inv-loop μ-loop loop-holds title-flip-requires add-place loop-less loop-again returns)

@@ -1,0 +1,810 @@
+// Prints what the test program `edges` has to print, worked out from document 01 alone.
+//
+// Tables are taken apart as whole numbers and written as such; no code is shared with the library.
+
+// One line of the output: a word for what it is, then names with values.
+struct Line(String);
+
+impl Line {
+    fn new(what: &str) -> Line {
+        Line(what.to_string())
+    }
+    fn number(mut self, name: &str, x: u64) -> Line {
+        self.0 += &format!(" {} {}", name, x);
+        self
+    }
+    fn bytes(mut self, name: &str, s: &[u8]) -> Line {
+        self.0 += &format!(" {} ", name);
+        if s.is_empty() {
+            self.0 += "-";
+        }
+        for b in s {
+            self.0 += &format!("{:02x}", b);
+        }
+        self
+    }
+    fn numbers(mut self, name: &str, xs: &[u64]) -> Line {
+        self.0 += &format!(" {}", name);
+        for x in xs {
+            self.0 += &format!(" {}", x);
+        }
+        self
+    }
+    fn end(self) {
+        println!("{}", self.0);
+    }
+}
+
+fn main() {
+    numbers();
+    requests();
+    halves();
+    entries();
+    heads();
+    rows();
+}
+
+const FILL: u8 = 0xee;
+const KEY: u64 = 0x11223344556677;
+const STI: u64 = 0x8899aabbccddee;
+const HASH: u64 = 0x0123456789abcdef;
+const F1: u64 = 0xf1a0a1a2a3a4a5a6;
+const F2: u64 = 0xf2b0b1b2b3b4b5b6;
+const F3: u64 = 0x73c0c1c2c3c4c5c6;
+const F4: u64 = 0x74d0d1d2d3d4d5d6;
+
+// ---------------------------------------------------------------- numbers
+
+// The groups of seven bits of x, low group first, top bit set in all but the last.
+fn encode(x: u64) -> Vec<u8> {
+    let digits = format!("{:b}", x);
+    let count = (digits.len() + 6) / 7;
+    let padded = format!("{:0>width$}", digits, width = count * 7);
+    let mut out = Vec::new();
+    for g in (0..count).rev() {
+        let group = u8::from_str_radix(&padded[g * 7..g * 7 + 7], 2).unwrap();
+        out.push(if g == 0 { group } else { group + 128 });
+    }
+    out
+}
+
+// The number at the start of s and its length, or the refusal.
+fn decode(s: &[u8]) -> Result<(u64, usize), u64> {
+    let head = &s[..s.len().min(10)];
+    let Some(last) = head.iter().position(|b| *b < 128) else {
+        return Err(if head.len() == 10 { 2 } else { 1 });
+    };
+    let form = &head[..=last];
+    let mut value: u128 = 0;
+    for (i, b) in form.iter().enumerate() {
+        value += u128::from(b % 128) * 128u128.pow(i as u32);
+    }
+    if value < 1 << 64 && encode(value as u64) == form {
+        Ok((value as u64, form.len()))
+    } else {
+        Err(2)
+    }
+}
+
+fn number_read(s: &[u8]) {
+    let line = Line::new("number-read").bytes("bytes", s);
+    match decode(s) {
+        Ok((x, n)) => line.number("value", x).number("length", n as u64).end(),
+        Err(w) => line.number("refused", w).end(),
+    }
+}
+
+fn number_write(x: u64, room: usize) {
+    let form = encode(x);
+    let mut out = vec![FILL; room];
+    let line = Line::new("number-write").number("value", x).number("room", room as u64);
+    let line = if form.len() <= room {
+        out[..form.len()].copy_from_slice(&form);
+        line.number("wrote", form.len() as u64)
+    } else {
+        line.number("refused", 1)
+    };
+    line.bytes("bytes", &out).end();
+}
+
+fn numbers() {
+    let edge = [0, 1, 127, 128, 16383, 16384, (1 << 56) - 1, 1 << 56, 1 << 63, u64::MAX];
+    for x in edge {
+        let mut form = encode(x);
+        let n = form.len();
+        Line::new("number-len").number("value", x).number("length", n as u64).end();
+        number_write(x, 12);
+        number_write(x, n);
+        number_write(x, n - 1);
+        number_read(&form[..n - 1]);
+        form.push(FILL);
+        number_read(&form);
+    }
+    number_read(&[]);
+    number_read(&[0x80]);
+    number_read(&[0x80, 0x00]);
+    number_read(&[0x80, 0x80, 0x00]);
+    number_read(&[0xff, 0x00, 0x01]);
+    number_read(&[0x00]);
+    number_read(&[0x00, 0x00]);
+    number_read(&[0x01, 0x80, 0x00]);
+    for first in [0xff, 0x80] {
+        let nine = vec![first; 9];
+        number_read(&nine);
+        for tenth in [0x00, 0x01, 0x02, 0x7f, 0x80, 0x81, 0xff] {
+            let mut s = nine.clone();
+            s.push(tenth);
+            number_read(&s);
+            s.extend([0x01, 0x00]);
+            number_read(&s);
+        }
+    }
+}
+
+// ---------------------------------------------------------------- requests
+
+#[derive(Clone, Copy, PartialEq)]
+enum Arg {
+    Content,
+    Entry,
+    Cci,
+    Trigger,
+    Rights,
+    Permits,
+    Key,
+    Any,
+}
+use Arg::*;
+
+// The arguments of each kind, in the order of the paper.
+fn schema(kind: u64) -> Vec<Arg> {
+    let facts = [Cci, Trigger, Rights, Permits, Key, Key];
+    let mut out = Vec::new();
+    match kind {
+        1 => {
+            out.push(Content);
+            out.extend(facts);
+        }
+        2 => {
+            out.extend([Content, Entry]);
+            out.extend(facts);
+            out.push(Any);
+        }
+        3 => out.extend([Content, Entry]),
+        4 => out.extend([Entry, Any]),
+        5 => out.extend([Entry, Any, Any, Any, Any, Any]),
+        6 => out.extend([Content, Entry, Any]),
+        7 => out.extend([Entry, Any, Any, Any, Any]),
+        _ => panic!("no kind"),
+    }
+    out
+}
+
+// The refusal of an argument, 0 for none.
+fn fault(arg: Arg, x: u64) -> u64 {
+    let (good, number) = match arg {
+        Content => ((1..=999).contains(&x), 4),
+        Entry => ((1..=999).contains(&x), 5),
+        Cci => ([0, 2, 3].contains(&x), 6),
+        Trigger => ([0, 1].contains(&x), 6),
+        Rights | Permits => (x <= 15, 6),
+        Key => (x < (1 << 56), 6),
+        Any => (true, 0),
+    };
+    if good { 0 } else { number }
+}
+
+fn limit(kind: u64, args: &[u64]) -> u64 {
+    let faults = schema(kind).into_iter().zip(args).map(|(a, x)| fault(a, *x));
+    faults.filter(|f| *f != 0).min().unwrap_or(0)
+}
+
+fn form(kind: u64, args: &[u64]) -> Vec<u8> {
+    let mut out = encode(kind);
+    for x in args {
+        out.extend(encode(*x));
+    }
+    out
+}
+
+fn parse(s: &[u8]) -> Result<(u64, Vec<u64>, usize), u64> {
+    let (kind, mut at) = decode(s)?;
+    if kind < 1 || kind > 7 {
+        return Err(3);
+    }
+    let mut args = Vec::new();
+    for arg in schema(kind) {
+        let (x, n) = decode(&s[at..])?;
+        let f = fault(arg, x);
+        if f != 0 {
+            return Err(f);
+        }
+        args.push(x);
+        at += n;
+    }
+    Ok((kind, args, at))
+}
+
+fn request_read(s: &[u8]) {
+    let line = Line::new("request-read").bytes("bytes", s);
+    match parse(s) {
+        Ok((kind, args, n)) => line
+            .number("length", n as u64)
+            .bytes("again", &form(kind, &args))
+            .number("remainder", (s.len() - n) as u64)
+            .end(),
+        Err(w) => line.number("refused", w).number("remainder", s.len() as u64).end(),
+    }
+}
+
+fn request_write(kind: u64, args: &[u64], room: usize) {
+    let bytes = form(kind, args);
+    let mut out = vec![FILL; 64];
+    let line = Line::new("request-write").number("kind", kind).numbers("arguments", args);
+    let line = line.number("room", room as u64);
+    let refusal = match limit(kind, args) {
+        0 if bytes.len() > room => 1,
+        w => w,
+    };
+    let line = if refusal == 0 {
+        out[..bytes.len()].copy_from_slice(&bytes);
+        line.number("wrote", bytes.len() as u64)
+    } else {
+        line.number("refused", refusal)
+    };
+    line.bytes("bytes", &out[..bytes.len() + 1]).end();
+}
+
+// All that is asked of a request with these arguments.
+fn request(kind: u64, args: &[u64]) {
+    let mut bytes = form(kind, args);
+    let n = bytes.len();
+    Line::new("request-len")
+        .number("kind", kind)
+        .numbers("arguments", args)
+        .number("length", n as u64)
+        .number("limit", limit(kind, args))
+        .end();
+    request_write(kind, args, 64);
+    request_write(kind, args, n);
+    request_write(kind, args, n - 1);
+    bytes.extend([FILL, FILL]);
+    request_read(&bytes);
+}
+
+fn edge_values(arg: Arg) -> Vec<u64> {
+    match arg {
+        Content | Entry => vec![0, 1, 999, 1000, u64::MAX],
+        Cci => vec![0, 1, 2, 3, 4, u64::MAX],
+        Trigger => vec![0, 1, 2, u64::MAX],
+        Rights | Permits => vec![0, 15, 16, u64::MAX],
+        Key => vec![0, (1 << 56) - 1, 1 << 56, u64::MAX],
+        Any => vec![0, u64::MAX],
+    }
+}
+
+fn requests() {
+    let top = u64::MAX;
+    let examples: [(u64, Vec<u64>); 7] = [
+        (1, vec![999, 3, 1, 15, 15, (1 << 56) - 1, STI]),
+        (2, vec![128, 999, 2, 0, 3, 14, KEY, (1 << 56) - 1, top]),
+        (3, vec![5, 999]),
+        (4, vec![7, 1 << 63]),
+        (5, vec![999, top, top, top, top, top]),
+        (6, vec![1, 9, 0]),
+        (7, vec![1, 0, 127, 128, top]),
+    ];
+    for (kind, args) in &examples {
+        request(*kind, args);
+        let bytes = form(*kind, args);
+        for n in 0..bytes.len() {
+            request_read(&bytes[..n]);
+        }
+        for (i, arg) in schema(*kind).into_iter().enumerate() {
+            for x in edge_values(arg) {
+                let mut changed = args.clone();
+                changed[i] = x;
+                request(*kind, &changed);
+            }
+        }
+    }
+    // Two faults in one request.
+    request(2, &[0, 0, 1, 2, 16, 16, top, top, 0]);
+    request(2, &[1, 0, 1, 2, 16, 16, top, top, 0]);
+    request(3, &[1000, 1000]);
+    request(6, &[1, 1000, top]);
+    for kind in [0, 8, 127, 128, top] {
+        request_read(&encode(kind));
+        let mut s = encode(kind);
+        s.extend([0x80, 0x00]);
+        request_read(&s);
+    }
+    request_read(&[]);
+    request_read(&[0x80]);
+    request_read(&[0x80, 0x00]);
+    request_read(&[0x83, 0x00, 0x01, 0x01]);
+    request_read(&[0x03, 0x00, 0x80]);
+    request_read(&[0x03, 0x00, 0x80, 0x00]);
+    request_read(&[0x03, 0x80, 0x00, 0x00]);
+    request_read(&[0x03, 0xe7, 0x07, 0xe8, 0x07]);
+    request_read(&[0x03, 0xe8, 0x07, 0xe8, 0x07]);
+    request_read(&[0x03, 0x01, 0x80, 0x00]);
+    request_read(&[0x03, 0x01, 0x81]);
+    request_read(&[0x01, 0x01, 0x01, 0x80, 0x00]);
+    request_read(&[0x01, 0x01, 0x80, 0x00, 0x02]);
+    request_read(&[0x01, 0x01, 0x02, 0x02, 0x80]);
+    request_read(&[0x01, 0x01, 0x02, 0x00, 0x10, 0x80, 0x00]);
+    request_read(&[0x01, 0x01, 0x02, 0x00, 0x80, 0x00, 0x10]);
+    request_read(&[0x02, 0x01, 0x00, 0x80, 0x00]);
+    request_read(&[0x04, 0x00, 0x80, 0x00]);
+    request_read(&[0x04, 0x01, 0x80, 0x00]);
+    request_read(&[0x04, 0x01, 0xff, 0xff, 0xff, 0xff, 0xff, 0xff, 0xff, 0xff, 0xff, 0x02]);
+    request_read(&[0x04, 0x01, 0xff, 0xff, 0xff, 0xff, 0xff, 0xff, 0xff, 0xff, 0xff]);
+    request_read(&[0x06, 0x01, 0x09, 0x00, 0x04, 0x07, 0x09]);
+}
+
+// ---------------------------------------------------------------- halves
+
+// Sixteen bytes as one number, so that byte 0 holds bits 120 to 127.
+fn whole(s: &[u8]) -> u128 {
+    s[..16].iter().fold(0, |x, b| x * 256 + u128::from(*b))
+}
+
+// `count` bits of x from bit `low`.
+fn bits(x: u128, low: u32, count: u32) -> u64 {
+    let shifted = x / 2u128.pow(low);
+    (shifted % 2u128.pow(count)) as u64
+}
+
+// The 16 bytes that both halves have alike.
+struct Half {
+    first: u64,
+    key: u64,
+    flag: u64,
+    id: u64,
+}
+
+impl Half {
+    fn read(s: &[u8]) -> Half {
+        let x = whole(s);
+        Half { first: bits(x, 120, 8), key: bits(x, 64, 56), flag: bits(x, 63, 1), id: bits(x, 0, 10) }
+    }
+    fn cci(&self) -> u64 {
+        self.first % 4
+    }
+    fn usable(&self) -> bool {
+        self.flag == 1 && self.id != 0
+    }
+    // The half with all reserved bits 0.
+    fn form(&self) -> [u8; 16] {
+        let mut out = [0; 16];
+        out[..8].copy_from_slice(&((self.first << 56) + self.key).to_be_bytes());
+        out[8..].copy_from_slice(&((self.flag << 63) + self.id).to_be_bytes());
+        out
+    }
+}
+
+// What the module adds to a rule half.
+struct Module {
+    trigger: u64,
+    rights: u64,
+    permits: u64,
+    hash: u64,
+}
+
+impl Module {
+    fn read(s: &[u8]) -> Module {
+        let x = whole(&s[16..]);
+        Module { trigger: bits(x, 127, 1), rights: bits(x, 116, 4), permits: bits(x, 112, 4), hash: bits(x, 48, 64) }
+    }
+    fn form(&self) -> [u8; 16] {
+        let mut out = [0; 16];
+        out[0] = [0x00, 0x80][self.trigger as usize];
+        out[1] = (self.rights * 16 + self.permits) as u8;
+        out[2..10].copy_from_slice(&self.hash.to_be_bytes());
+        out
+    }
+}
+
+fn title_form(cci: u64, key: u64, id: u64) -> Vec<u8> {
+    Half { first: cci, key, flag: 1, id }.form().to_vec()
+}
+
+fn rule_form(key: u64, module: &Module, id: u64) -> Vec<u8> {
+    let mut out = Half { first: 0, key, flag: 1, id }.form().to_vec();
+    out.extend(module.form());
+    out
+}
+
+fn title_line(line: Line, s: &[u8]) {
+    let half = Half::read(s);
+    line.number("cci", half.cci())
+        .number("key", half.key)
+        .number("flag", half.flag)
+        .number("content", half.id)
+        .number("usable", half.usable() as u64)
+        .end();
+}
+
+fn rule_line(line: Line, s: &[u8]) {
+    let half = Half::read(s);
+    let module = Module::read(s);
+    line.number("key", half.key)
+        .number("flag", half.flag)
+        .number("content", half.id)
+        .number("usable", half.usable() as u64)
+        .number("trigger", module.trigger)
+        .number("rights", module.rights)
+        .number("permits", module.permits)
+        .number("hash", module.hash)
+        .end();
+}
+
+// One line for each bit of s flipped, byte by byte from the lowest bit.
+fn flips(what: &str, s: &[u8], print: fn(Line, &[u8])) {
+    for byte in 0..s.len() {
+        for bit in 0..8 {
+            let mut t = s.to_vec();
+            t[byte] ^= 1 << bit;
+            print(Line::new(what).number("byte", byte as u64).number("bit", bit), &t);
+        }
+    }
+}
+
+fn wiped_title(s: &[u8]) -> Vec<u8> {
+    let mut out = s.to_vec();
+    out[..8].copy_from_slice(&F1.to_be_bytes());
+    out[8] %= 128;
+    out
+}
+
+fn wiped_rule(s: &[u8]) -> Vec<u8> {
+    let mut out = s.to_vec();
+    out[..8].copy_from_slice(&F2.to_be_bytes());
+    out[8] %= 128;
+    out[16..24].copy_from_slice(&F3.to_be_bytes());
+    out[24..].copy_from_slice(&F4.to_be_bytes());
+    out
+}
+
+fn titles() {
+    for (cci, key, id) in [(2, KEY, 999), (0, 0, 1), (3, (1 << 56) - 1, 512), (2, STI, 4)] {
+        let s = title_form(cci, key, id);
+        let line = Line::new("title-write").number("cci", cci).number("key", key).number("content", id);
+        line.bytes("bytes", &s).end();
+        title_line(Line::new("title-read").bytes("bytes", &s), &s);
+    }
+    // Of a usable half, and of a wiped one whose other bits are all set.
+    flips("title-flip", &title_form(2, KEY, 4), title_line);
+    flips("title-flip", &wiped_title(&[0xff; 16]), title_line);
+    for s in [vec![0xff; 16], title_form(2, KEY, 999)] {
+        Line::new("title-wipe").bytes("bytes", &s).bytes("wiped", &wiped_title(&s)).end();
+    }
+    for (first, key, id) in [(2, KEY, 999), (0, STI, 1)] {
+        let s = Half { first, key, flag: 1, id }.form();
+        let line = Line::new("half-write").number("first", first).number("key", key).number("content", id);
+        line.bytes("bytes", &s).end();
+    }
+}
+
+fn rule_halves() {
+    let writes = [
+        (STI, 999, Module { trigger: 1, rights: 10, permits: 5, hash: HASH }),
+        (0, 1, Module { trigger: 0, rights: 0, permits: 15, hash: 0 }),
+        ((1 << 56) - 1, 512, Module { trigger: 1, rights: 15, permits: 0, hash: u64::MAX }),
+    ];
+    for (key, id, module) in &writes {
+        let s = rule_form(*key, module, *id);
+        Line::new("rule-write")
+            .number("trigger", module.trigger)
+            .number("rights", module.rights)
+            .number("permits", module.permits)
+            .number("key", *key)
+            .number("hash", module.hash)
+            .number("content", *id)
+            .bytes("bytes", &s)
+            .end();
+        rule_line(Line::new("rule-read").bytes("bytes", &s), &s);
+    }
+    flips("rule-flip", &rule_form(STI, &writes[0].2, 4), rule_line);
+    for s in [vec![0xff; 32], rule_form(STI, &writes[0].2, 999)] {
+        Line::new("rule-wipe").bytes("bytes", &s).bytes("wiped", &wiped_rule(&s)).end();
+    }
+}
+
+fn halves() {
+    titles();
+    rule_halves();
+}
+
+// 0 free, 1 copy, 2 full, 3 torn.
+fn entry_kind(title: &[u8], rule: &[u8]) -> u64 {
+    let t = Half::read(title);
+    let r = Half::read(rule);
+    let over = |h: &Half| h.usable() && h.id > 999;
+    if over(&t) || over(&r) || (t.usable() && t.cci() == 1) {
+        return 3;
+    }
+    match (t.usable(), r.usable()) {
+        (false, false) => 0,
+        (true, false) => 1,
+        (true, true) if t.id == r.id => 2,
+        _ => 3,
+    }
+}
+
+fn entries() {
+    for title_flag in 0..2 {
+        for title_id in [0, 4, 999, 1000] {
+            for cci in 0..4 {
+                for rule_flag in 0..2 {
+                    for rule_id in [0, 4, 5, 1000] {
+                        let title = Half { first: cci, key: KEY, flag: title_flag, id: title_id }.form();
+                        let mut rule = Half { first: 0, key: STI, flag: rule_flag, id: rule_id }.form().to_vec();
+                        rule.extend([0; 16]);
+                        Line::new("entry-kind")
+                            .number("title-flag", title_flag)
+                            .number("title-content", title_id)
+                            .number("cci", cci)
+                            .number("rule-flag", rule_flag)
+                            .number("rule-content", rule_id)
+                            .number("kind", entry_kind(&title, &rule))
+                            .end();
+                    }
+                }
+            }
+        }
+    }
+}
+
+// ---------------------------------------------------------------- heads
+
+const APPLICATION: u64 = 0x12ff;
+
+fn two(x: u64) -> [u8; 2] {
+    (x as u16).to_be_bytes()
+}
+
+fn fresh_ledger(rows: u64, length: usize) -> Vec<u8> {
+    let mut out = vec![0; length.max(24)];
+    out[..2].copy_from_slice(&two(APPLICATION));
+    out[2..4].copy_from_slice(&two(rows));
+    out.truncate(length);
+    out
+}
+
+fn fresh_titles(length: usize) -> Vec<u8> {
+    let mut out = b"A1\x00\x10".to_vec();
+    out.extend(16000u32.to_be_bytes());
+    out.extend([0, 0]);
+    out.extend(two(999));
+    out.extend([16, 1, 0, 0]);
+    out.resize(length, 0);
+    out
+}
+
+fn fresh_rules(length: usize) -> Vec<u8> {
+    let mut out = b"M1\x00\x11".to_vec();
+    out.extend(32000u32.to_be_bytes());
+    out.extend(two(APPLICATION));
+    out.extend(two(999));
+    out.extend([32, 2]);
+    out.resize(length, 0);
+    out
+}
+
+fn word(s: &[u8]) -> u64 {
+    s.iter().fold(0, |x, b| x * 256 + u64::from(*b))
+}
+
+fn ledger_check(s: &[u8]) -> u64 {
+    if s.len() < 24 {
+        return 7;
+    }
+    let rows = word(&s[2..4]);
+    let good = rows >= 1 && rows <= 999 && s.len() as u64 == 24 * (rows + 1);
+    if good { 0 } else { 7 }
+}
+
+// s is right but for the bytes that are ignored.
+fn like(s: &[u8], right: &[u8], ignored: &[usize]) -> bool {
+    (0..right.len()).all(|i| ignored.contains(&i) || s[i] == right[i])
+}
+
+fn titles_check(s: &[u8]) -> u64 {
+    if s.len() != 16000 {
+        return 8;
+    }
+    let version = s[3] == 0x09 || s[3] == 0x10;
+    let good = version && like(s, &fresh_titles(16000)[..16], &[2, 3, 14, 15]);
+    if good { 0 } else { 8 }
+}
+
+fn rules_check(s: &[u8]) -> u64 {
+    if s.len() != 32000 {
+        return 9;
+    }
+    let good = s[3] >= 0x11 && like(s, &fresh_rules(32000)[..14], &[2, 3, 8, 9]);
+    if good { 0 } else { 9 }
+}
+
+fn rules_check_for(s: &[u8], application: u64) -> u64 {
+    match rules_check(s) {
+        0 if word(&s[8..10]) != application => 9,
+        w => w,
+    }
+}
+
+fn ledger_line(line: Line, s: &[u8]) {
+    line.number("check", ledger_check(s)).end();
+}
+
+fn titles_line(line: Line, s: &[u8]) {
+    line.number("check", titles_check(s)).end();
+}
+
+fn rules_line(line: Line, s: &[u8]) {
+    rules_line_for(line, s, APPLICATION);
+}
+
+fn rules_line_for(line: Line, s: &[u8], application: u64) {
+    line.number("check", rules_check(s)).number("for", rules_check_for(s, application)).end();
+}
+
+fn heads_of(name: &str, s: &[u8], head: usize, print: fn(Line, &[u8])) {
+    let fresh = format!("{}-fresh", name);
+    print(Line::new(&fresh).bytes("head", &s[..head]), s);
+    let more = format!("{}-byte", name);
+    for i in 0..head {
+        let mut t = s.to_vec();
+        t[i] = ((u16::from(t[i]) + 1) % 256) as u8;
+        print(Line::new(&more).number("byte", i as u64).number("value", t[i].into()), &t);
+    }
+}
+
+fn ledgers() {
+    let s = fresh_ledger(2, 72);
+    heads_of("ledger", &s, 24, ledger_line);
+    Line::new("ledger-fields").number("application", word(&s[..2])).number("rows", word(&s[2..4])).end();
+    let cases: [(u64, &[usize]); 6] = [
+        (0, &[0, 1, 23, 24, 25, 48]),
+        (1, &[0, 1, 23, 24, 47, 48, 49, 72]),
+        (2, &[0, 1, 23, 24, 71, 72, 73, 96]),
+        (999, &[0, 24, 23976, 23999, 24000, 24001, 24024]),
+        (1000, &[24, 24000, 24023, 24024, 24025]),
+        (65535, &[0, 24, 24000, 24024]),
+    ];
+    for (rows, lengths) in cases {
+        for length in lengths {
+            let line = Line::new("ledger-length").number("rows", rows).number("length", *length as u64);
+            ledger_line(line, &fresh_ledger(rows, *length));
+        }
+    }
+}
+
+fn title_tables() {
+    let s = fresh_titles(16000);
+    heads_of("titles", &s, 16, titles_line);
+    for version in [0x08, 0x09, 0x0a, 0x0b, 0x0c, 0x0d, 0x0e, 0x0f, 0x10, 0x11, 0x12] {
+        let mut t = s.clone();
+        t[3] = version;
+        titles_line(Line::new("titles-version").number("version", version.into()), &t);
+    }
+    for length in [0, 1, 15, 16, 23, 24, 15999, 16000, 16001] {
+        titles_line(Line::new("titles-length").number("length", length as u64), &fresh_titles(length));
+    }
+}
+
+fn rule_tables() {
+    let s = fresh_rules(32000);
+    heads_of("rules", &s, 32, rules_line);
+    Line::new("rules-fields").number("application", word(&s[8..10])).end();
+    for version in [0x10, 0x11, 0x12, 0x13, 0xff] {
+        let mut t = s.clone();
+        t[3] = version;
+        rules_line(Line::new("rules-version").number("version", version.into()), &t);
+    }
+    for length in [0, 1, 23, 24, 31, 32, 31999, 32000, 32001] {
+        rules_line(Line::new("rules-length").number("length", length as u64), &fresh_rules(length));
+    }
+    for application in [0, 0x12fe, 0x12ff, 0x1300, 0xff12, 0xffff, 0x112ff, u64::MAX] {
+        rules_line_for(Line::new("rules-for").number("application", application), &s, application);
+    }
+}
+
+fn heads() {
+    ledgers();
+    title_tables();
+    rule_tables();
+}
+
+// ---------------------------------------------------------------- rows
+
+#[derive(Clone, Copy)]
+struct Facts {
+    cci: u64,
+    trigger: u64,
+    rights: u64,
+    permits: u64,
+    title_key: u64,
+    sti_key: u64,
+}
+
+// The bytes of a row with this byte 0.
+fn row_form(state: u8, f: Facts) -> Vec<u8> {
+    let mut out = vec![state, f.cci as u8, f.trigger as u8, f.rights as u8, f.permits as u8, 0, 0, 0];
+    out.extend(&f.title_key.to_be_bytes()[1..]);
+    out.push(0);
+    out.extend(&f.sti_key.to_be_bytes()[1..]);
+    out.push(0);
+    out
+}
+
+fn row_facts(s: &[u8]) -> Facts {
+    Facts {
+        cci: s[1].into(),
+        trigger: s[2].into(),
+        rights: s[3].into(),
+        permits: s[4].into(),
+        title_key: word(&s[8..15]),
+        sti_key: word(&s[16..23]),
+    }
+}
+
+// 0 empty, 1 here, 2 away, 3 gone, 4 none of these; the facts where it is here.
+fn row_line(line: Line, s: &[u8]) {
+    let f = row_facts(s);
+    let facts = [(Cci, f.cci), (Trigger, f.trigger), (Rights, f.rights), (Permits, f.permits)];
+    let sound = facts.iter().all(|(a, x)| fault(*a, *x) == 0);
+    match s[0] {
+        1 if sound => line
+            .number("state", 1)
+            .number("cci", f.cci)
+            .number("trigger", f.trigger)
+            .number("rights", f.rights)
+            .number("permits", f.permits)
+            .number("title-key", f.title_key)
+            .number("sti-key", f.sti_key)
+            .end(),
+        0 | 2 | 3 => line.number("state", s[0].into()).end(),
+        _ => line.number("state", 4).end(),
+    }
+}
+
+fn rows() {
+    let base = Facts { cci: 2, trigger: 0, rights: 7, permits: 14, title_key: KEY, sti_key: STI };
+    for state in [0, 1, 2, 3, 4, 5, 127, 128, 255] {
+        let s = row_form(state, base);
+        row_line(Line::new("row-state").bytes("bytes", &s), &s);
+    }
+    for (at, values) in [(1, vec![0, 1, 2, 3, 4, 255]), (2, vec![0, 1, 2, 255]), (3, vec![0, 15, 16, 255]), (4, vec![0, 15, 16, 255])] {
+        for value in values {
+            let mut s = row_form(1, base);
+            s[at] = value;
+            row_line(Line::new("row-state").bytes("bytes", &s), &s);
+        }
+    }
+    flips("row-flip", &row_form(1, base), row_line);
+    let most = Facts { cci: 3, trigger: 1, rights: 15, permits: 15, title_key: (1 << 56) - 1, sti_key: (1 << 56) - 1 };
+    for f in [base, most] {
+        Line::new("row-write-here")
+            .number("cci", f.cci)
+            .number("trigger", f.trigger)
+            .number("rights", f.rights)
+            .number("permits", f.permits)
+            .number("title-key", f.title_key)
+            .number("sti-key", f.sti_key)
+            .bytes("bytes", &row_form(1, f))
+            .end();
+    }
+    for state in [0, 2, 3] {
+        let mut s = vec![0; 24];
+        s[0] = state;
+        Line::new("row-write-plain").number("state", state.into()).bytes("bytes", &s).end();
+    }
+    for permits in [0, 14, 15] {
+        let mut s = vec![FILL; 24];
+        s[4] = permits;
+        Line::new("row-write-permits").number("permits", permits.into()).bytes("bytes", &s).end();
+    }
+}
