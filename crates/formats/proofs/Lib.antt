@@ -1,5 +1,6 @@
 pub mod Part
 pub mod Cells
+pub mod Zeros
 pub mod Tests
 pub mod Bits
 pub mod Stores

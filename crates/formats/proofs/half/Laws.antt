@@ -1,6 +1,6 @@
 -- The laws of what title halves and rule halves have in common: what a written half reads as, and what a wipe leaves of one.
 -- Assumes nothing.
-use Prim.Native.Nat.{ℕ, zero, suc, _+_, _-_, _%_, _^_, _≤_, _<_}
+use Prim.Native.Nat.{ℕ, _+_, _-_, _%_, _^_, _≤_, _<_}
 use mathlib.Core.Path.{_≡_, refl, sym, ap, _∙_}
 use mathlib.Core.List.{List, [], _∷_, _++_}
 use mathlib.Core.Bool.{Bool, true, false, not, _&&_}
@@ -15,6 +15,8 @@ use Rattle.formats.specs.Part.{put}
 use Rattle.formats.specs.Field.{number, bytesOf}
 use Rattle.formats.specs.Half.{keyOf, flagOf, idOf, usableOf, halfBytes, wiped}
 use Rattle.formats.proofs.Part.{put-length, getD-put-before, part-put-before}
+use Rattle.formats.proofs.Tests.{split}
+use Rattle.formats.proofs.Zeros.{zero-at}
 use Rattle.formats.proofs.field.Laws.{length-bytesOf, number-bytesOf}
 
 -- the first bytes of a written half are 16
@@ -64,21 +66,12 @@ module _ {h : List ℕ} {key id : ℕ} (w : Written h key id) where
   unfolding usableOf
   written-usable some small = simp (w .flag-is, ne-eqb (idOf h) 0 (λ e. omega (arith, written-id small)))
 
-second : (a b : Bool) → a && b ≡ true → b ≡ true
-second true b e = e
-second false b e = cc
-
 -- a usable half has an ID
 pub usable-id : (h : List ℕ) → usableOf h ≡ true → 1 ≤ idOf h
 unfolding usableOf
 usable-id h usable =
-    let some = eqb-false (idOf h) 0 (not-true (eqb (idOf h) 0) (second (flagOf h) (not (eqb (idOf h) 0)) usable)) in
+    let some = eqb-false (idOf h) 0 (not-true (eqb (idOf h) 0) (split (flagOf h) (not (eqb (idOf h) 0)) usable .1)) in
     elim (decLe 1 (idOf h)) [ yes p ↦ p | no p ↦ absurd (some (omega arith)) ]
-
-zero-at : (n i : ℕ) → _≡_ {A = ℕ} (getD (replicate n 0) i 0) 0
-zero-at zero i = refl
-zero-at (suc n) zero = refl
-zero-at (suc n) (suc i) = zero-at n i
 
 -- a half of zeros is not usable
 pub zeros-unusable : (n : ℕ) → usableOf (replicate n 0) ≡ false

@@ -1,6 +1,6 @@
 -- What the loop of `read_arguments` keeps: the values read so far, and what is left to read.
 -- Assumes nothing.
-use Prim.Native.Nat.{ℕ, zero, suc, _+_, _-_, _/_, _≤_, _<_}
+use Prim.Native.Nat.{ℕ, suc, _+_, _-_, _/_, _≤_, _<_}
 use mathlib.Core.Path.{_≡_, refl, sym, ap, ap₂, _∙_}
 use mathlib.Core.List.{List, [], _∷_, _++_, append-nil}
 use native.Mathlib.Omega.{arith}
@@ -15,6 +15,7 @@ use Rattle.formats.specs.declared.number.NumberRead.{NumberRead}
 use Rattle.formats.specs.declared.number.NumberRead.the-variants.{Number, Refused}
 use Rattle.formats.specs.declared.request.Argument.{Argument}
 use Rattle.formats.specs.declared.request.Arguments.{Arguments}
+use Rattle.formats.proofs.Zeros.{zeros-behind}
 use Rattle.formats.proofs.number.Laws.{read-within}
 use Rattle.formats.proofs.request.Packing.{Left, next, none, start}
 use Rattle.formats.specs.declared.request.Request.{Request}
@@ -124,14 +125,6 @@ all-read {sch} {s} {values = values} {count} {used} inv few z =
 pub lent-arguments : {a : Arguments} (s : List ℕ) {v k : ℕ} → readNumber s ≡ Number v k
     → a ≡ argumentsAnswer (readArguments (schema v) (take (length s - k) (drop k s))) → a ≡ argumentsAnswer (readArguments (schema v) (drop k s))
 lent-arguments s {v} {k} e asked = asked ∙ ap (λ (l : List ℕ). argumentsAnswer (readArguments (schema v) l)) (lent-rest s k (read-within s e))
-
--- zeros behind a list change none of its elements, for a place past its end counts as 0
-zeros-behind : (vs : List ℕ) (m i : ℕ) → getD (vs ++ replicate m 0) i 0 ≡ getD vs i 0
-zeros-behind [] zero i = refl
-zeros-behind [] (suc m) zero = refl
-zeros-behind [] (suc m) (suc i) = zeros-behind [] m i
-zeros-behind (v ∷ vs) m zero = refl
-zeros-behind (v ∷ vs) m (suc i) = zeros-behind vs m i
 
 getD-filled : (vs : List ℕ) (i : ℕ) → getD (filled vs) i 0 ≡ getD vs i 0
 unfolding filled
