@@ -3,8 +3,10 @@ use Prim.Native.Nat.{ℕ}
 use mathlib.Core.List.{List}
 use mathlib.Core.Bool.{Bool, true, false, _&&_, _||_, cond}
 use lib.Dec.{ltb, eqb}
-use Rattle.formats.specs.Half.{usableOf, idOf}
+use Rattle.formats.specs.Half.{keyOf, idOf, usableOf}
 use Rattle.formats.specs.Title.{cciOf}
+use Rattle.formats.specs.Rule.{triggerOf, rightsOf, permitsOf}
+use Rattle.formats.specs.declared.facts.Facts.{Facts}
 use Rattle.formats.specs.declared.entry.EntryKind.{EntryKind}
 use Rattle.formats.specs.declared.entry.EntryKind.the-variants.{Free, Copy, Full, Torn}
 
@@ -25,3 +27,15 @@ unfoldable pub kindOf : List ℕ → List ℕ → EntryKind
 kindOf t r =
     cond (strayOf t || (strayOf r || (usableOf t && eqb (cciOf t) 1))) Torn
     (kindBy (usableOf t) (usableOf r) (eqb (idOf t) (idOf r)))
+
+-- "the entry's facts": CCI and title key from its title half, trigger, rights, permits and STI key from its rule half
+unfoldable pub entryFacts : List ℕ → List ℕ → Facts
+entryFacts t r =
+    record {
+      cci = cciOf t;
+      trigger = triggerOf r;
+      rights = rightsOf r;
+      permits = permitsOf r;
+      «title_key» = keyOf t;
+      «sti_key» = keyOf r;
+    }

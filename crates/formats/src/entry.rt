@@ -1,8 +1,10 @@
 // What the two halves of an entry are together.
 ghost use mathlib.Core.Path.{_≡_};
 ghost use lib.ListN.{length};
-ghost use Rattle.formats.specs.Entry.{kindOf};
+ghost use Rattle.formats.specs.Entry.{kindOf, entryFacts};
+use crate::facts::Facts;
 use crate::half;
+use crate::rule;
 use crate::title;
 
 pub enum EntryKind {
@@ -41,4 +43,19 @@ pub fn kind(title: &[u8], rule: &[u8]) -> EntryKind
         return EntryKind::Full;
     }
     EntryKind::Torn
+}
+
+// The facts that a full entry holds.
+pub fn facts(title: &[u8], rule: &[u8]) -> Facts
+    requires { ⌜ (length (now title) ≡ 16) × (length (now rule) ≡ 32) ⌝ }
+    ensures { λ r. ⌜ r ≡ entryFacts (now (title .entry)) (now (rule .entry)) ⌝ }
+{
+    Facts {
+        cci: title::cci(title),
+        trigger: rule::trigger(rule),
+        rights: rule::rights(rule),
+        permits: rule::permits(rule),
+        title_key: half::key(title),
+        sti_key: half::key(rule),
+    }
 }

@@ -1,24 +1,26 @@
 -- The laws of an entry's kind: one for each way to it, what a kind says of the halves, and what writing and wiping make of them.
 -- Assumes nothing.
-use Prim.Native.Nat.{ℕ, _≤_, _<_}
+use Prim.Native.Nat.{ℕ, _^_, _≤_, _<_}
 use mathlib.Core.Path.{_≡_, refl, sym, _∙_}
 use mathlib.Core.List.{List}
 use mathlib.Core.Bool.{Bool, true, false, _||_, cond}
 use native.Mathlib.Omega.{arith}
 use native.Mathlib.Decide.{decLt, ℕ-discrete}
-use lib.ListN.{length, replicate}
+use lib.ListN.{length, getD, replicate}
 use borrow.Author.Tests.{lt-ltb, le-ltb, eq-eqb, ne-eqb}
 use Rattle.formats.specs.Half.{usableOf, idOf, wiped}
 use Rattle.formats.specs.Title.{cciOf, titleHalf}
-use Rattle.formats.specs.Entry.{kindOf}
+use Rattle.formats.specs.Entry.{kindOf, entryFacts}
 use Rattle.formats.specs.Rule.{ruleHalf, wipedRule}
 use Rattle.formats.specs.declared.facts.Facts.{Facts}
 use Rattle.formats.specs.declared.facts.Fillers.{Fillers}
 use Rattle.formats.specs.declared.entry.EntryKind.{EntryKind}
 use Rattle.formats.specs.declared.entry.EntryKind.the-variants.{Free, Copy, Full, Torn}
-use Rattle.formats.proofs.half.Laws.{written-id, written-usable, usable-id, zeros-unusable, half-wiped}
+use Rattle.formats.proofs.half.Laws.{written-key, written-id, written-usable, usable-id, zeros-unusable, half-wiped}
 use Rattle.formats.proofs.title.Laws.{title-written, title-cci}
-use Rattle.formats.proofs.rule.Laws.{rule-written, rule-wiped}
+use Rattle.formats.proofs.rule.Laws.{rule-written, rule-trigger, rule-rights, rule-permits, rule-wiped}
+use Rattle.formats.proofs.field.Laws.{number-below}
+use Rattle.formats.proofs.facts.Laws.{Ranges, facts-same}
 
 torn-anyway : (b : Bool) → cond b Torn Torn ≡ Torn
 torn-anyway true = refl
@@ -153,3 +155,28 @@ module _ (t r : List ℕ) where
   -- an entry with both halves wiped is free
   pub both-wiped : (f : ℕ) (fillers : Fillers) → length r ≡ 32 → kindOf (wiped t f) (wipedRule r fillers) ≡ Free
   both-wiped f fillers size = kind-free (wiped t f) (wipedRule r fillers) (half-wiped t f .unusable) (rule-wiped r fillers size .unusable)
+
+-- the facts that were written in an entry's halves are read back
+pub entry-facts-back : (f : Facts) (hash id : ℕ) → Ranges f → f .«title_key» < 2 ^ 56 → f .«sti_key» < 2 ^ 56
+    → entryFacts (titleHalf (f .cci) (f .«title_key») id) (ruleHalf f hash id) ≡ f
+unfolding entryFacts
+entry-facts-back f hash id r t s =
+    facts-same (title-cci (f .cci) (f .«title_key») id (omega arith)) (rule-trigger f hash id (omega arith)) (rule-rights f hash id (omega arith))
+    (rule-permits f hash id (omega arith)) (written-key (title-written (f .cci) (f .«title_key») id) t) (written-key (rule-written f hash id) s)
+
+-- the facts of an entry of bytes whose title half is sound are in their ranges, and its keys are below 2 ^ 56
+module _ (t r : List ℕ) (t-bytes : (i : ℕ) → getD t i 0 < 256) (r-bytes : (i : ℕ) → getD r i 0 < 256) where
+  pub entry-facts-range : Sound t → Ranges (entryFacts t r)
+  unfolding entryFacts
+  entry-facts-range s =
+      record {
+        cci = omega arith;
+        kind = s .cci-not-one;
+        trigger = omega (arith, r-bytes 16);
+        rights = omega (arith, r-bytes 17);
+        permits = omega arith;
+      }
+
+  pub entry-keys : length t ≡ 16 → length r ≡ 32 → (entryFacts t r .«title_key» < 2 ^ 56) × (entryFacts t r .«sti_key» < 2 ^ 56)
+  unfolding entryFacts
+  entry-keys t-size r-size = (number-below 7 1 t t-bytes (omega arith), number-below 7 1 r r-bytes (omega arith))

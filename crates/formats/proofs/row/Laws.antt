@@ -9,7 +9,7 @@ use native.Mathlib.Nat.{mod-eq-of-lt}
 use lib.ListN.{length, getD, set, replicate}
 use lib.Dec.{eqb}
 use borrow.Rule.Slice.PartMut.{putMid}
-use borrow.Author.Tests.{le-leb, leb-true, ne-eqb, eqb-true, eqb-false, not-true}
+use borrow.Author.Tests.{ne-eqb, eqb-true}
 use Rattle.formats.specs.Part.{put}
 use Rattle.formats.specs.Field.{bytesOf}
 use Rattle.formats.specs.Facts.{inRange}
@@ -20,32 +20,7 @@ use Rattle.formats.specs.declared.facts.Facts.{Facts}
 use Rattle.formats.proofs.field.Laws.{length-bytesOf, bytesOf-zero, number-whole, number-below}
 use Rattle.formats.proofs.Part.{put-length}
 use Rattle.formats.proofs.Cells.{cells, of-cells}
-use Rattle.formats.proofs.Tests.{split, both}
-
--- facts in their ranges
-pub record Ranges (f : Facts) : Type 0 where
-  pub cci : f .cci ≤ 3
-  pub kind : f .cci ≡ 1 → ⊥
-  pub trigger : f .trigger ≤ 1
-  pub rights : f .rights ≤ 15
-  pub permits : f .permits ≤ 15
-
--- facts that pass are in their ranges
-pub ranges : {f : Facts} → inRange f ≡ true → Ranges f
-unfolding inRange
-ranges e =
-    let (p, e₁) = split _ _ e in
-    let (q, n) = split _ _ p in
-    let (t, e₂) = split _ _ e₁ in
-    let (r, s) = split _ _ e₂ in
-    record { cci = leb-true _ _ q; kind = eqb-false _ _ (not-true _ n); trigger = leb-true _ _ t; rights = leb-true _ _ r; permits = leb-true _ _ s }
-
--- and facts in their ranges pass
-pub in-range : {f : Facts} → Ranges f → inRange f ≡ true
-unfolding inRange
-in-range r =
-    both (both (le-leb _ _ (r .cci)) (ap not (ne-eqb _ _ (r .kind))))
-    (both (le-leb _ _ (r .trigger)) (both (le-leb _ _ (r .rights)) (le-leb _ _ (r .permits))))
+use Rattle.formats.proofs.facts.Laws.{Ranges, ranges, in-range, facts-same, permitting}
 
 -- the state of a row, by its byte 0
 module _ (row : List ℕ) where
@@ -126,11 +101,6 @@ pub permits-length : (row : List ℕ) (p : ℕ) → length row ≡ 24 → length
 unfolding withPermits
 permits-length row p e = put-length row (p % 256 ∷ []) 4 (omega arith) ∙ e
 
--- facts are the same where each of them is
-facts-same : {f g : Facts} → f .cci ≡ g .cci → f .trigger ≡ g .trigger → f .rights ≡ g .rights → f .permits ≡ g .permits
-    → f .«title_key» ≡ g .«title_key» → f .«sti_key» ≡ g .«sti_key» → f ≡ g
-facts-same a b c d t s = λ i. record { cci = a i; trigger = b i; rights = c i; permits = d i; «title_key» = t i; «sti_key» = s i }
-
 -- the facts that were written are read back
 facts-back : (f : Facts) → Ranges f → f .«title_key» < 2 ^ 56 → f .«sti_key» < 2 ^ 56 → factsOf (hereRow f) ≡ f
 unfolding factsOf hereRow bytesOf
@@ -196,10 +166,6 @@ pub here-keys : (row : List ℕ) {f : Facts} → stateOf row ≡ Here f → leng
     → (f .«title_key» < 2 ^ 56) × (f .«sti_key» < 2 ^ 56)
 unfolding factsOf
 here-keys row h e bytes = rw (here-facts row h .facts) (number-below 7 8 row bytes (omega arith), number-below 7 16 row bytes (omega arith))
-
--- the facts with other permits
-abbrev pub permitting : Facts → ℕ → Facts
-permitting f p = record { cci = f .cci; trigger = f .trigger; rights = f .rights; permits = p; «title_key» = f .«title_key»; «sti_key» = f .«sti_key» }
 
 -- what is read of a row whose permits are changed
 permits-read : (row : List ℕ) (p : ℕ) → length row ≡ 24 → p ≤ 15 → (getD (withPermits row p) 0 0 ≡ getD row 0 0) × (factsOf (withPermits row p) ≡ permitting (factsOf row) p)

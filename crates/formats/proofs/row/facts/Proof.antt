@@ -2,7 +2,9 @@
 -- Assumes nothing.
 use native.Mathlib.Omega.{arith}
 use Rattle.formats.specs.Row.{factsOf}
+use mathlib.Core.Path.{refl}
 use borrow.Author.Needs.{needs}
+use Rattle.formats.proofs.facts.Laws.{facts-same}
 use Rattle.formats.proofs.row.facts.Statement.{statement}
 use Rattle.formats.proofs.row.facts.Tie as tie
 
@@ -56,7 +58,7 @@ read-requires-2 c κs = search needs
 
 returns : tie.Need-returns
 unfolding factsOf
-returns c = cc
+returns c = facts-same refl refl refl refl (c .before .before .read .ensures) (c .read2 .ensures)
 
 pub facts-spec : {M : Type 1} → statement M
 facts-spec =

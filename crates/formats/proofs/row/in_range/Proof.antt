@@ -4,7 +4,7 @@ use mathlib.Core.Path.{sym}
 use native.Mathlib.Omega.{arith}
 use borrow.Author.Tests.{le-leb, leb-true}
 use Rattle.formats.proofs.Tests.{refuted, same-test}
-use Rattle.formats.proofs.row.Laws.{ranges, in-range}
+use Rattle.formats.proofs.facts.Laws.{ranges, in-range}
 use Rattle.formats.proofs.row.in_range.Statement.{statement}
 use Rattle.formats.proofs.row.in_range.Tie as tie
 
