@@ -141,6 +141,10 @@ filled-numbers (MoveOut j h f) = refl
 filled-numbers (MoveIn c j h) = refl
 filled-numbers (Delete j f) = refl
 
+-- what a matched request holds
+pub held : {q p : Request} → q ≡ p → Holds q (kindOf p) (filled (valuesOf p))
+held e = record { kind-is = ap kindOf (sym e); values-are = ap (λ (q : Request). filled (valuesOf q)) (sym e) }
+
 module _ {q : Request} {kind : ℕ} {vs : List ℕ} (h : Holds q kind vs) where
   pub nine : length vs ≡ 9
   nine = ap length (h .values-are) ∙ filled-size q

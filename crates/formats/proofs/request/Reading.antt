@@ -121,11 +121,6 @@ all-read {sch} {s} {values = values} {count} {used} inv few z =
     rw (append-nil, size) (ap (λ (l : List ℕ). take count values ++ l) (sym (inv .zeros)) ∙ take-append-drop count values) in
     sym (ap argumentsAnswer e ∙ ap₂ answer f (let g : used + 0 ≡ used = omega arith in g))
 
--- what the reader of arguments answered of the bytes after the kind, which it is lent as `&s[k..]`
-pub lent-arguments : {a : Arguments} (s : List ℕ) {v k : ℕ} → readNumber s ≡ Number v k
-    → a ≡ argumentsAnswer (readArguments (schema v) (take (length s - k) (drop k s))) → a ≡ argumentsAnswer (readArguments (schema v) (drop k s))
-lent-arguments s {v} {k} e asked = asked ∙ ap (λ (l : List ℕ). argumentsAnswer (readArguments (schema v) l)) (lent-rest s k (read-within s e))
-
 getD-filled : (vs : List ℕ) (i : ℕ) → getD (filled vs) i 0 ≡ getD vs i 0
 unfolding filled
 getD-filled vs i = zeros-behind vs (9 - length vs) i
@@ -135,24 +130,35 @@ filled-request : (kind : ℕ) (vs : List ℕ) → requestOf kind (filled vs) ≡
 unfolding requestOf
 filled-request kind vs = simp (getD-filled vs)
 
-module _ (s : List ℕ) {v k : ℕ} (e : readNumber s ≡ Number v k) (z : kindLimit v ≡ 0) (a : Arguments)
-    (asked : a ≡ argumentsAnswer (readArguments (schema v) (drop k s))) where
-  answered-fault : (r : ArgumentsRead) → readArguments (schema v) (drop k s) ≡ r → (argumentsAnswer r .refusal ≡ 0 → ⊥) → RequestRefused (argumentsAnswer r .refusal) ≡ readRequest s
-  answered-fault (Values vs n) h f = absurd (f refl)
-  answered-fault (Fault w) h f = sym (kind-value s e z ∙ ap (asRequest v k) h)
+-- a kind v that passes was read in k bytes of s, and the reader of arguments answered a of the bytes after it
+pub record KindRead (s : List ℕ) (v k : ℕ) (a : Arguments) : Type 0 where
+  pub number-is : readNumber s ≡ Number v k
+  pub passes : kindLimit v ≡ 0
+  pub asked : a ≡ argumentsAnswer (readArguments (schema v) (take (length s - k) (drop k s)))
 
-  answered-read : (r : ArgumentsRead) → readArguments (schema v) (drop k s) ≡ r → argumentsAnswer r .refusal ≡ 0
+module _ {s : List ℕ} {v k : ℕ} {a : Arguments} (h : KindRead s v k a) where
+  answered : a ≡ argumentsAnswer (readArguments (schema v) (drop k s))
+  answered = h .asked ∙ ap (λ (l : List ℕ). argumentsAnswer (readArguments (schema v) l)) (lent-rest s k (read-within s (h .number-is)))
+
+  becomes : {r : ArgumentsRead} → readArguments (schema v) (drop k s) ≡ r → asRequest v k r ≡ readRequest s
+  becomes e = sym (kind-value s (h .number-is) (h .passes) ∙ ap (asRequest v k) e)
+
+  fault-by : (r : ArgumentsRead) → readArguments (schema v) (drop k s) ≡ r → (argumentsAnswer r .refusal ≡ 0 → ⊥) → RequestRefused (argumentsAnswer r .refusal) ≡ readRequest s
+  fault-by (Values vs n) e f = absurd (f refl)
+  fault-by (Fault w) e f = becomes e
+
+  read-by : (r : ArgumentsRead) → readArguments (schema v) (drop k s) ≡ r → argumentsAnswer r .refusal ≡ 0
       → Read (requestOf v (argumentsAnswer r .values)) (k + argumentsAnswer r .len) ≡ readRequest s
-  answered-read (Values vs n) h f = ap (λ (q : Request). Read q (k + n)) (filled-request v vs) ∙ sym (kind-value s e z ∙ ap (asRequest v k) h)
-  answered-read (Fault w) h f = absurd (omega (arith, fault-positive (schema v) (drop k s) h))
+  read-by (Values vs n) e f = ap (λ (q : Request). Read q (k + n)) (filled-request v vs) ∙ becomes e
+  read-by (Fault w) e f = absurd (omega (arith, fault-positive (schema v) (drop k s) e))
 
   -- a refusal among the arguments is the request's
   pub request-fault : (a .refusal ≡ 0 → ⊥) → RequestRefused (a .refusal) ≡ readRequest s
-  request-fault f = rw asked (answered-fault (readArguments (schema v) (drop k s)) refl (λ y. f (ap (λ (x : Arguments). x .refusal) asked ∙ y)))
+  request-fault f = rw answered (fault-by (readArguments (schema v) (drop k s)) refl (λ y. f (ap (λ (x : Arguments). x .refusal) answered ∙ y)))
 
   -- and without one the request is read
   pub request-read : a .refusal ≡ 0 → Read (requestOf v (a .values)) (k + a .len) ≡ readRequest s
-  request-read f = rw asked (answered-read (readArguments (schema v) (drop k s)) refl (sym (ap (λ (x : Arguments). x .refusal) asked) ∙ f))
+  request-read f = rw answered (read-by (readArguments (schema v) (drop k s)) refl (sym (ap (λ (x : Arguments). x .refusal) answered) ∙ f))
 
   -- a read request ends within s
   pub request-within : a .refusal ≡ 0 → k + a .len ≤ length s

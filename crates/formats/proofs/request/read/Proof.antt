@@ -10,7 +10,7 @@ use Rattle.formats.specs.declared.request.Request.{Request}
 use Rattle.formats.specs.declared.request.RequestRead.the-variants.{Read, Refused}
 use Rattle.formats.proofs.number.Laws.{read-within}
 use Rattle.formats.proofs.request.Cases.{kind-refused, kind-limit}
-use Rattle.formats.proofs.request.Reading.{lent-arguments, request-fault, request-read, request-within}
+use Rattle.formats.proofs.request.Reading.{KindRead, request-fault, request-read, request-within}
 use Rattle.formats.proofs.request.read.Statement.{statement}
 use Rattle.formats.proofs.request.read.Tie as tie
 
@@ -57,37 +57,36 @@ part-read-arguments-end c = search needs
 read-arguments-requires : tie.Need-read-arguments-requires
 read-arguments-requires c κs = search needs
 
+-- what is known once the arguments are read
+kind-read : (c : tie.After-read-arguments) → let x = c .before .before .before .before .before in
+    KindRead (now (x .before .before .before .before .args .s)) (x .found .given .0 .0) (x .found .given .0 .1 .0) (c .read-arguments .result)
+kind-read c =
+    let x = c .before .before .before .before .before in
+    record {
+      number-is = sym (x .before .before .read .ensures) ∙ x .found .given .1;
+      passes = sym (c .before .before .before .range-limit .ensures) ∙ c .before .before .if1 .left;
+      asked = c .read-arguments .ensures;
+    }
+
 returns-3 : tie.Need-returns-3
-returns-3 c =
-    let y = c .before .before in
-    let x = y .before .before .before .before .before in
-    let s = now (x .before .before .before .before .args .s) in
-    let e = sym (x .before .before .read .ensures) ∙ x .found .given .1 in
-    request-fault s e (sym (y .before .before .before .range-limit .ensures) ∙ y .before .before .if1 .left) (y .read-arguments .result)
-    (lent-arguments s e (y .read-arguments .ensures)) (c .if2 .taken)
+returns-3 c = request-fault (kind-read (c .before .before)) (c .if2 .taken)
 
 request-of-requires : tie.Need-request-of-requires
 request-of-requires c κs = search needs
 
 add-t11 : tie.Need-add-t11
 add-t11 c =
-    let y = c .before .before .before .before .before in
-    let x = y .before .before .before .before .before in
-    let s = now (x .before .before .before .before .args .s) in
-    let e = sym (x .before .before .read .ensures) ∙ x .found .given .1 in
-    let h = request-within s e (sym (y .before .before .before .range-limit .ensures) ∙ y .before .before .if1 .left) (y .read-arguments .result)
-    (lent-arguments s e (y .read-arguments .ensures)) (c .before .before .before .if2 .left) in
-    omega (arith, h)
+    let e = c .before .before .before in
+    let x = e .before .before .before .before .before .before .before in
+    omega (arith, request-within (kind-read (e .before .before)) (e .if2 .left))
 
 returns-4 : tie.Need-returns-4
 returns-4 c =
-    let y = c .before .before .before .before .before in
+    let e = c .before .before .before in
+    let y = e .before .before in
     let x = y .before .before .before .before .before in
-    let s = now (x .before .before .before .before .args .s) in
-    let e = sym (x .before .before .read .ensures) ∙ x .found .given .1 in
     ap (λ (q : Request). Read q (x .found .given .0 .1 .0 + y .read-arguments .result .len)) (c .before .request-of .ensures)
-    ∙ request-read s e (sym (y .before .before .before .range-limit .ensures) ∙ y .before .before .if1 .left) (y .read-arguments .result)
-    (lent-arguments s e (y .read-arguments .ensures)) (c .before .before .before .if2 .left)
+    ∙ request-read (kind-read y) (e .if2 .left)
 
 pub read-spec : {M : Type 1} → statement M
 read-spec =
