@@ -1,6 +1,6 @@
 -- The laws of what title halves and rule halves have in common: what a written half reads as, and what a wipe leaves of one.
 -- Assumes nothing.
-use Prim.Native.Nat.{ℕ, _+_, _-_, _%_, _^_, _≤_, _<_}
+use Prim.Native.Nat.{ℕ, _+_, _-_, _/_, _%_, _^_, _≤_, _<_}
 use mathlib.Core.Path.{_≡_, refl, sym, ap, _∙_}
 use mathlib.Core.List.{List, [], _∷_, _++_}
 use mathlib.Core.Bool.{Bool, true, false, not, _&&_}
@@ -15,6 +15,7 @@ use Rattle.formats.specs.Part.{put}
 use Rattle.formats.specs.Field.{number, bytesOf}
 use Rattle.formats.specs.Half.{keyOf, flagOf, idOf, usableOf, halfBytes, wiped}
 use Rattle.formats.proofs.Part.{put-length, getD-put-before, part-put-before}
+use Rattle.formats.proofs.Bytes.{Bytes, Listed, none, more, then, zeros, field, bytes-put}
 use Rattle.formats.proofs.Tests.{split}
 use Rattle.formats.proofs.Zeros.{zero-at}
 use Rattle.formats.proofs.field.Laws.{length-bytesOf, number-bytesOf}
@@ -135,3 +136,13 @@ still-wiped {w = w} q room was =
       low-kept = simp (before 8 (omega arith)) (was .low-kept);
       bytes-9-15 = λ i low high. before i (omega arith) ∙ was .bytes-9-15 i low high;
     }
+
+-- a written half holds bytes
+pub half-bytes : (first key id : ℕ) → first < 256 → Listed (halfBytes first key id)
+unfolding halfBytes
+half-bytes first key id small = more first small (then (field 7 key) (more 128 (omega arith) (then (zeros 5) (more (id / 256 % 4) (omega arith) (more (id % 256) (omega arith) none)))))
+
+-- and so does a wiped one
+pub wiped-bytes : (h : List ℕ) (f : ℕ) → Bytes h → Bytes (wiped h f)
+unfolding wiped
+wiped-bytes h f b = bytes-put h 0 b (then (field 8 f) (more (getD h 8 0 % 128) (omega arith) none))

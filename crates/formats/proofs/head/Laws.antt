@@ -14,6 +14,7 @@ use Rattle.formats.specs.Part.{part, put}
 use Rattle.formats.specs.Field.{number, bytesOf}
 use Rattle.formats.specs.Head.{ledgerApplication, rowsOf, ledgerPasses, tablePasses, titlesPass, rulesPass, rulesApplication, ledgerAnswer, titlesAnswer, rulesAnswer, rulesAnswerFor, freshLedger, tableHead, freshTitles, freshRules}
 use Rattle.formats.proofs.Part.{part-length, getD-part, put-length, part-put-before, getD-put-before}
+use Rattle.formats.proofs.Bytes.{Bytes, Listed, none, more, bytes, then, zeros, field}
 use Rattle.formats.proofs.field.Laws.{length-bytesOf, number-whole}
 use Rattle.formats.proofs.Tests.{split, both, either, one-holds, refuses}
 
@@ -287,3 +288,21 @@ module _ (application : ℕ) where
   -- its entries are zeros
   pub fresh-rule : (j : ℕ) → 1 ≤ j → j ≤ 999 → part (freshRules application) (32 * j) 32 ≡ replicate 32 0
   fresh-rule j low high = rules-fresh .zeros (32 * j) 32 (omega arith) (omega arith)
+
+-- fresh tables hold bytes
+pub fresh-ledger-bytes : (rows application : ℕ) → Bytes (freshLedger rows application)
+unfolding freshLedger
+fresh-ledger-bytes rows application = bytes (then (field 2 application) (then (field 2 rows) (zeros (20 + 24 * rows))))
+
+head-bytes : (identifier version size application width mark : ℕ) → version < 256 → width < 256 → mark < 256 → Listed (tableHead identifier version size application width mark)
+unfolding tableHead
+head-bytes identifier version size application width mark v w m =
+    then (field 2 identifier) (more 0 (omega arith) (more version v (then (field 4 size) (then (field 2 application) (then (field 2 999) (more width w (more mark m none)))))))
+
+pub fresh-titles-bytes : Bytes freshTitles
+unfolding freshTitles
+fresh-titles-bytes = bytes (then (head-bytes 0x4131 0x10 16000 0 16 0x01 (lit< tt) (lit< tt) (lit< tt)) (zeros 15986))
+
+pub fresh-rules-bytes : (application : ℕ) → Bytes (freshRules application)
+unfolding freshRules
+fresh-rules-bytes application = bytes (then (head-bytes 0x4D31 0x11 32000 application 32 0x02 (lit< tt) (lit< tt) (lit< tt)) (zeros 31986))

@@ -11,9 +11,10 @@ use native.Mathlib.Nat.{pow-succ', one-le-pow}
 use native.Mathlib.Numerals.{add-one}
 use native.Mathlib.Decide.{decLt, ℕ-discrete}
 use borrow.Author.Tests.{ltb-false, lt-ltb, le-ltb, eq-eqb, ne-eqb}
-use lib.ListN.{length, take, getD}
+use lib.ListN.{length, take}
 use lib.Dec.{ltb, eqb}
 use Rattle.formats.specs.Part.{put}
+use Rattle.formats.proofs.Bytes.{Bytes, Listed, none, more, bytes}
 use Rattle.formats.specs.Number.{groupsIn, groups, withGroup, readFrom, readNumber, writing, writtenTo}
 use Rattle.formats.specs.declared.number.NumberRead.{NumberRead}
 use Rattle.formats.specs.declared.number.NumberRead.the-variants.{Number, Refused}
@@ -63,22 +64,16 @@ by-groups-in P one step (suc k) n h =
 pub by-groups : (P : ℕ → Type 0) → ((n : ℕ) → n < 128 → P n) → ((n : ℕ) → 128 ≤ n → P (n / 128) → P n) → (n : ℕ) → P n
 by-groups P one step n = by-groups-in P one step n n (omega arith)
 
--- every element of s is a byte
-abbrev pub Bytes : List ℕ → Type 0
-Bytes s = (j : ℕ) → getD s j 0 < 256
-
 -- a written form has at least one byte, and it has only bytes
 pub groups-positive : (n : ℕ) → 1 ≤ length (groups n)
 groups-positive = by-groups (λ n. 1 ≤ length (groups n)) (λ n h. rw (groups-last n h) (omega arith)) (λ n h ih. rw (groups-more n h) (omega arith))
 
-byte-more : (b : ℕ) (s : List ℕ) → b < 256 → Bytes s → Bytes (b ∷ s)
-byte-more b s h rest zero = h
-byte-more b s h rest (suc j) = rest j
+groups-listed : (n : ℕ) → Listed (groups n)
+groups-listed =
+    by-groups (λ n. Listed (groups n)) (λ n h. rw (groups-last n h) (more n (omega arith) none)) (λ n h ih. rw (groups-more n h) (more (128 + n % 128) (omega arith) ih))
 
 pub groups-bytes : (n : ℕ) → Bytes (groups n)
-groups-bytes =
-    by-groups (λ n. Bytes (groups n)) (λ n h. rw (groups-last n h) (byte-more n [] (omega arith) (λ j. omega arith)))
-    (λ n h ih. rw (groups-more n h) (byte-more (128 + n % 128) (groups (n / 128)) (omega arith) ih))
+groups-bytes n = bytes (groups-listed n)
 
 -- the cases of reading, i bytes of the number standing before
 module _ (i b : ℕ) (s : List ℕ) where

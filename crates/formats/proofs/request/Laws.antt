@@ -11,7 +11,7 @@ use native.Mathlib.Decide.{ℕ-discrete}
 use borrow.Author.Tests.{eq-eqb, ne-eqb, leb-true}
 use lib.Dec.{leb}
 use lib.ListN.{length, take, drop, getD, length-append, length-drop}
-use lib.Seq.{take-add, drop-append-seam, drop-append-le, getD-drop}
+use lib.Seq.{take-add, drop-append-seam, drop-append-le}
 use Rattle.formats.specs.Number.{groups, readNumber}
 use Rattle.formats.specs.Request.{limit, kindLimit, schema, kindOf, valuesOf, requestOf, numbers, written, firstLimit, limitOf, ArgumentsRead, Values, Fault, withValue, readArguments, asRequest, readRequest}
 use Rattle.formats.specs.declared.number.NumberRead.{NumberRead}
@@ -21,9 +21,10 @@ use Rattle.formats.specs.declared.request.Request.{Request}
 use Rattle.formats.specs.declared.request.Request.the-variants.{Register, Record, CheckOut, CheckIn, MoveOut, MoveIn, Delete}
 use Rattle.formats.specs.declared.request.RequestRead.{RequestRead}
 use Rattle.formats.specs.declared.request.RequestRead.the-variants.{Read, Refused}
+use Rattle.formats.proofs.Bytes.{Bytes, bytes-drop}
 use Rattle.formats.proofs.Cells.{cells, of-cells}
 use Rattle.formats.proofs.Tests.{split, passed}
-use Rattle.formats.proofs.number.Laws.{Bytes, reading-undoes-writing, only-written, read-below, read-within, refusals, read-stays, refused-stays}
+use Rattle.formats.proofs.number.Laws.{reading-undoes-writing, only-written, read-below, read-within, refusals, read-stays, refused-stays}
 use Rattle.formats.proofs.request.Cases.{argument-refused, argument-limit, argument-value, kind-refused, kind-limit, kind-value}
 
 -- every value is a 64-bit number
@@ -68,13 +69,12 @@ module _ (a : Argument) (rest : List Argument) (s : List ℕ) {v k : ℕ} (e : r
   form-more : {vs : List ℕ} {n : ℕ} → Form rest (drop k s) vs n → Form (a ∷ rest) s (v ∷ vs) (k + n)
   unfolding numbers
   form-more {vs} {n} f =
-      let dropped : Bytes s → Bytes (drop k s) = λ b j. rw (getD-drop k s j 0) (b (k + j)) in
       record {
         within = omega (arith, f .within, read-within s e, length-drop k s);
         size = ap suc (f .size);
         limits = limits-cons a rest v vs z (f .limits);
-        form = λ b. take-add k n s ∙ ap₂ _++_ (only-written s b e) (f .form (dropped b));
-        below = λ b. below-cons vs (read-below s b e) (f .below (dropped b));
+        form = λ b. take-add k n s ∙ ap₂ _++_ (only-written s b e) (f .form (bytes-drop k s b));
+        below = λ b. below-cons vs (read-below s b e) (f .below (bytes-drop k s b));
       }
 
   good-more : (r : ArgumentsRead) → Good rest (drop k s) r → Good (a ∷ rest) s (withValue v k r)
@@ -241,12 +241,11 @@ good-as : (s : List ℕ) (v k : ℕ) → readNumber s ≡ Number v k → kindLim
 unfolding Good GoodRequest limitOf written numbers
 good-as s v k e z (Values vs n) f =
     let m = made vs z (f .size) in
-    let dropped : Bytes s → Bytes (drop k s) = λ b j. rw (getD-drop k s j 0) (b (k + j)) in
     record {
       within = omega (arith, f .within, read-within s e, length-drop k s);
       passes = rw (m .kind-is, m .values-are) (f .limits);
-      form = λ b. rw (m .kind-is, m .values-are) (take-add k n s ∙ ap₂ _++_ (only-written s b e) (f .form (dropped b)));
-      below = λ b. rw (m .values-are) (f .below (dropped b));
+      form = λ b. rw (m .kind-is, m .values-are) (take-add k n s ∙ ap₂ _++_ (only-written s b e) (f .form (bytes-drop k s b)));
+      below = λ b. rw (m .values-are) (f .below (bytes-drop k s b));
     }
 good-as s v k e z (Fault w) h = h
 

@@ -19,6 +19,7 @@ use Rattle.formats.specs.declared.row.RowState.the-variants.{Empty, Here
 use Rattle.formats.specs.declared.facts.Facts.{Facts}
 use Rattle.formats.proofs.field.Laws.{length-bytesOf, bytesOf-zero, number-whole, number-below}
 use Rattle.formats.proofs.Part.{put-length}
+use Rattle.formats.proofs.Bytes.{Bytes, none, more, bytes, then, zeros, field, bytes-put}
 use Rattle.formats.proofs.Cells.{cells, of-cells}
 use Rattle.formats.proofs.facts.Laws.{Ranges, ranges, in-range, facts-same, permitting}
 
@@ -193,3 +194,23 @@ Ignored row v i = stateOf (put row i (v ∷ [])) ≡ stateOf row
 pub zeros-ignored : (row : List ℕ) (v : ℕ) → length row ≡ 24 → Ignored row v 5 × Ignored row v 6 × Ignored row v 7 × Ignored row v 15 × Ignored row v 23
 unfolding put stateOf factsOf
 zeros-ignored row v e = of-cells (λ x. Ignored x v 5 × Ignored x v 6 × Ignored x v 7 × Ignored x v 15 × Ignored x v 23) 24 row e (refl, refl, refl, refl, refl)
+
+-- written rows hold bytes
+pub here-bytes : (f : Facts) → Bytes (hereRow f)
+unfolding hereRow
+here-bytes f =
+    bytes
+    (more 1 (omega arith)
+    (more (f .cci % 256) (omega arith)
+    (more (f .trigger % 256) (omega arith)
+    (more (f .rights % 256) (omega arith)
+    (more (f .permits % 256) (omega arith)
+    (then (zeros 3) (then (field 7 (f .«title_key»)) (more 0 (omega arith) (then (field 7 (f .«sti_key»)) (zeros 1))))))))))
+
+pub plain-bytes : (state : ℕ) → state < 256 → Bytes (plainRow state)
+unfolding plainRow
+plain-bytes state small = bytes (more state small (zeros 23))
+
+pub permits-bytes : (row : List ℕ) (p : ℕ) → Bytes row → Bytes (withPermits row p)
+unfolding withPermits
+permits-bytes row p b = bytes-put row 4 b (more (p % 256) (omega arith) none)

@@ -13,7 +13,8 @@ use Rattle.formats.specs.declared.facts.Facts.{Facts}
 use Rattle.formats.specs.declared.facts.Fillers.{Fillers}
 use Rattle.formats.proofs.Part.{put-length, part-put-same}
 use Rattle.formats.proofs.field.Laws.{length-bytesOf, number-whole}
-use Rattle.formats.proofs.half.Laws.{length-halfBytes, Written, half-written, Wiped, half-wiped, still-wiped, wiped-length}
+use Rattle.formats.proofs.Bytes.{Bytes, more, bytes, then, zeros, field, bytes-put}
+use Rattle.formats.proofs.half.Laws.{length-halfBytes, Written, half-written, half-bytes, Wiped, half-wiped, still-wiped, wiped-length, wiped-bytes}
 
 -- the reserved bits of a rule half beside those that all halves have
 pub record Reserved (r : List ℕ) : Type 0 where
@@ -59,6 +60,12 @@ module _ (f : Facts) (hash id : ℕ) where
   unfolding ruleHalf halfBytes bytesOf
   rule-hash small = number-whole 8 small
 
+  -- it holds bytes
+  pub rule-bytes : Bytes (ruleHalf f hash id)
+  unfolding ruleHalf
+  rule-bytes =
+      bytes (then (half-bytes 0 (f .«sti_key») id (omega arith)) (more (f .trigger % 2 * 128) (omega arith) (more (f .rights % 16 * 16 + f .permits % 16) (omega arith) (then (field 8 hash) (zeros 6)))))
+
 -- the last 16 bytes of a wiped rule half
 abbrev last : Fillers → List ℕ
 last f = bytesOf 8 (f .f3) ++ bytesOf 8 (f .f4)
@@ -81,3 +88,8 @@ module _ (r : List ℕ) (f : Fillers) (size : length r ≡ 32) where
   pub wipedRule-fillers : part (wipedRule r f) 16 16 ≡ bytesOf 8 (f .f3) ++ bytesOf 8 (f .f4)
   unfolding wipedRule
   wipedRule-fillers = part-put-same (wiped r (f .f2)) (last f) 16 room 16 (simp (length-append, length-bytesOf))
+
+-- a wiped rule half holds bytes
+pub wipedRule-bytes : (r : List ℕ) (f : Fillers) → Bytes r → Bytes (wipedRule r f)
+unfolding wipedRule
+wipedRule-bytes r f b = bytes-put (wiped r (f .f2)) 16 (wiped-bytes r (f .f2) b) (then (field 8 (f .f3)) (field 8 (f .f4)))

@@ -8,7 +8,8 @@ use lib.ListN.{length, getD}
 use Rattle.formats.specs.Field.{bytesOf}
 use Rattle.formats.specs.Half.{halfBytes}
 use Rattle.formats.specs.Title.{cciOf, titleHalf}
-use Rattle.formats.proofs.half.Laws.{length-halfBytes, Written, half-written}
+use Rattle.formats.proofs.Bytes.{Bytes, bytes}
+use Rattle.formats.proofs.half.Laws.{length-halfBytes, Written, half-written, half-bytes}
 
 module _ (cci key id : ℕ) where
   -- a written title half is 16 bytes
@@ -30,3 +31,8 @@ module _ (cci key id : ℕ) where
   pub title-cci : cci < 4 → cciOf (titleHalf cci key id) ≡ cci
   unfolding titleHalf halfBytes
   title-cci small = omega arith
+
+  -- it holds bytes
+  pub title-bytes : Bytes (titleHalf cci key id)
+  unfolding titleHalf
+  title-bytes = bytes (half-bytes (cci % 4) key id (omega arith))
