@@ -8,9 +8,10 @@ test: expected
 	rt fmt --check
 	rt ci
 
-# What the test program must print, worked out from the paper by a program of its own.
+# The cases that the test program reads and what it must print, worked out from the paper by a program of its own.
 expected: target/host/edges
-	target/host/edges | cmp - crates/edges/stdout
+	target/host/edges cases | cmp - crates/edges/stdin
+	target/host/edges answers | cmp - crates/edges/stdout
 
 target/host/edges: host/edges/main.rs
 	@mkdir -p target/host

@@ -1,41 +1,78 @@
-// Prints what the test program `edges` has to print, worked out from document 01 alone.
+// Prints the cases of the test program `edges`, or the cases with their answers, worked out from document 01 alone.
 //
 // Tables are taken apart as whole numbers and written as such; no code is shared with the library.
 
-// One line of the output: a word for what it is, then names with values.
-struct Line(String);
+use std::sync::atomic::{AtomicBool, Ordering};
 
-impl Line {
-    fn new(what: &str) -> Line {
-        Line(what.to_string())
+// Whether the answers are printed too.
+static ANSWERS: AtomicBool = AtomicBool::new(false);
+
+// Two digits a byte, `-` for no bytes.
+fn hex(s: &[u8]) -> String {
+    if s.is_empty() {
+        return "-".to_string();
     }
-    fn number(mut self, name: &str, x: u64) -> Line {
-        self.0 += &format!(" {} {}", name, x);
+    s.iter().map(|b| format!("{:02x}", b)).collect()
+}
+
+// One case: a word for what is called and its tokens; and the answer, names with values.
+struct Case {
+    call: String,
+    answer: String,
+}
+
+impl Case {
+    fn new(word: &str) -> Case {
+        Case { call: word.to_string(), answer: String::new() }
+    }
+    // A byte string as the next token.
+    fn with(mut self, s: &[u8]) -> Case {
+        self.call += &format!(" {}", hex(s));
         self
     }
-    fn bytes(mut self, name: &str, s: &[u8]) -> Line {
-        self.0 += &format!(" {} ", name);
-        if s.is_empty() {
-            self.0 += "-";
-        }
-        for b in s {
-            self.0 += &format!("{:02x}", b);
-        }
-        self
+    // A number as the next token, in the fewest bytes.
+    fn of(self, x: u64) -> Case {
+        let bytes = x.to_be_bytes();
+        let first = bytes.iter().position(|b| *b != 0).unwrap_or(7);
+        self.with(&bytes[first..])
     }
-    fn numbers(mut self, name: &str, xs: &[u64]) -> Line {
-        self.0 += &format!(" {}", name);
+    // Numbers as the next tokens, and `-` for those of `count` that are missing.
+    fn of_all(mut self, xs: &[u64], count: usize) -> Case {
         for x in xs {
-            self.0 += &format!(" {}", x);
+            self = self.of(*x);
         }
+        for _ in xs.len()..count {
+            self = self.with(&[]);
+        }
+        self
+    }
+    fn number(mut self, name: &str, x: u64) -> Case {
+        self.answer += &format!(" {} {}", name, x);
+        self
+    }
+    fn bytes(mut self, name: &str, s: &[u8]) -> Case {
+        self.answer += &format!(" {} {}", name, hex(s));
         self
     }
     fn end(self) {
-        println!("{}", self.0);
+        if ANSWERS.load(Ordering::Relaxed) {
+            println!("{} ->{}", self.call, self.answer);
+        } else {
+            println!("{}", self.call);
+        }
     }
 }
 
 fn main() {
+    let word = std::env::args().nth(1);
+    match word.as_deref() {
+        Some("cases") => {}
+        Some("answers") => ANSWERS.store(true, Ordering::Relaxed),
+        _ => {
+            eprintln!("usage: edges cases | edges answers");
+            std::process::exit(2);
+        }
+    }
     numbers();
     requests();
     halves();
@@ -87,24 +124,33 @@ fn decode(s: &[u8]) -> Result<(u64, usize), u64> {
 }
 
 fn number_read(s: &[u8]) {
-    let line = Line::new("number-read").bytes("bytes", s);
+    let case = Case::new("number-read").with(s);
     match decode(s) {
-        Ok((x, n)) => line.number("value", x).number("length", n as u64).end(),
-        Err(w) => line.number("refused", w).end(),
+        Ok((x, n)) => case.number("value", x).number("length", n as u64).end(),
+        Err(w) => case.number("refused", w).end(),
     }
 }
 
-fn number_write(x: u64, room: usize) {
-    let form = encode(x);
-    let mut out = vec![FILL; room];
-    let line = Line::new("number-write").number("value", x).number("room", room as u64);
-    let line = if form.len() <= room {
-        out[..form.len()].copy_from_slice(&form);
-        line.number("wrote", form.len() as u64)
-    } else {
-        line.number("refused", 1)
+// What writing a form into the first `room` bytes of a buffer answers, and the buffer after it. `fault` is the refusal
+// that comes before that of the room, 0 for none.
+fn written(case: Case, form: &[u8], room: usize, fault: u64) -> Case {
+    let mut out = vec![FILL; 64];
+    let refusal = match fault {
+        0 if form.len() > room => 1,
+        w => w,
     };
-    line.bytes("bytes", &out).end();
+    let case = if refusal == 0 {
+        out[..form.len()].copy_from_slice(form);
+        case.number("wrote", form.len() as u64)
+    } else {
+        case.number("refused", refusal)
+    };
+    case.bytes("bytes", &out)
+}
+
+fn number_write(x: u64, room: usize) {
+    let case = Case::new("number-write").of(x).of(room as u64);
+    written(case, &encode(x), room, 0).end();
 }
 
 fn numbers() {
@@ -112,7 +158,7 @@ fn numbers() {
     for x in edge {
         let mut form = encode(x);
         let n = form.len();
-        Line::new("number-len").number("value", x).number("length", n as u64).end();
+        Case::new("number-len").of(x).number("length", n as u64).end();
         number_write(x, 12);
         number_write(x, n);
         number_write(x, n - 1);
@@ -226,42 +272,28 @@ fn parse(s: &[u8]) -> Result<(u64, Vec<u64>, usize), u64> {
 }
 
 fn request_read(s: &[u8]) {
-    let line = Line::new("request-read").bytes("bytes", s);
+    let case = Case::new("request-read").with(s);
     match parse(s) {
-        Ok((kind, args, n)) => line
-            .number("length", n as u64)
-            .bytes("again", &form(kind, &args))
-            .number("remainder", (s.len() - n) as u64)
-            .end(),
-        Err(w) => line.number("refused", w).number("remainder", s.len() as u64).end(),
+        Ok((kind, args, n)) => {
+            let case = case.number("remainder", (s.len() - n) as u64).number("length", n as u64);
+            written(case, &form(kind, &args), 64, 0).end()
+        }
+        Err(w) => case.number("remainder", s.len() as u64).number("refused", w).end(),
     }
 }
 
 fn request_write(kind: u64, args: &[u64], room: usize) {
-    let bytes = form(kind, args);
-    let mut out = vec![FILL; 64];
-    let line = Line::new("request-write").number("kind", kind).numbers("arguments", args);
-    let line = line.number("room", room as u64);
-    let refusal = match limit(kind, args) {
-        0 if bytes.len() > room => 1,
-        w => w,
-    };
-    let line = if refusal == 0 {
-        out[..bytes.len()].copy_from_slice(&bytes);
-        line.number("wrote", bytes.len() as u64)
-    } else {
-        line.number("refused", refusal)
-    };
-    line.bytes("bytes", &out[..bytes.len() + 1]).end();
+    let case = Case::new("request-write").of(kind).of_all(args, 9).of(room as u64);
+    written(case, &form(kind, args), room, limit(kind, args)).end();
 }
 
 // All that is asked of a request with these arguments.
 fn request(kind: u64, args: &[u64]) {
     let mut bytes = form(kind, args);
     let n = bytes.len();
-    Line::new("request-len")
-        .number("kind", kind)
-        .numbers("arguments", args)
+    Case::new("request-len")
+        .of(kind)
+        .of_all(args, 9)
         .number("length", n as u64)
         .number("limit", limit(kind, args))
         .end();
@@ -416,20 +448,22 @@ fn rule_form(key: u64, module: &Module, id: u64) -> Vec<u8> {
     out
 }
 
-fn title_line(line: Line, s: &[u8]) {
+fn title_read(s: &[u8]) {
+    let case = Case::new("title-read").with(s);
     let half = Half::read(s);
-    line.number("cci", half.cci())
-        .number("key", half.key)
+    case.number("key", half.key)
         .number("flag", half.flag)
         .number("content", half.id)
         .number("usable", half.usable() as u64)
+        .number("cci", half.cci())
         .end();
 }
 
-fn rule_line(line: Line, s: &[u8]) {
+fn rule_read(s: &[u8]) {
+    let case = Case::new("rule-read").with(s);
     let half = Half::read(s);
     let module = Module::read(s);
-    line.number("key", half.key)
+    case.number("key", half.key)
         .number("flag", half.flag)
         .number("content", half.id)
         .number("usable", half.usable() as u64)
@@ -440,13 +474,13 @@ fn rule_line(line: Line, s: &[u8]) {
         .end();
 }
 
-// One line for each bit of s flipped, byte by byte from the lowest bit.
-fn flips(what: &str, s: &[u8], print: fn(Line, &[u8])) {
+// One case for each bit of s flipped, byte by byte from the lowest bit.
+fn flips(s: &[u8], read: fn(&[u8])) {
     for byte in 0..s.len() {
         for bit in 0..8 {
             let mut t = s.to_vec();
             t[byte] ^= 1 << bit;
-            print(Line::new(what).number("byte", byte as u64).number("bit", bit), &t);
+            read(&t);
         }
     }
 }
@@ -470,20 +504,18 @@ fn wiped_rule(s: &[u8]) -> Vec<u8> {
 fn titles() {
     for (cci, key, id) in [(2, KEY, 999), (0, 0, 1), (3, (1 << 56) - 1, 512), (2, STI, 4)] {
         let s = title_form(cci, key, id);
-        let line = Line::new("title-write").number("cci", cci).number("key", key).number("content", id);
-        line.bytes("bytes", &s).end();
-        title_line(Line::new("title-read").bytes("bytes", &s), &s);
+        Case::new("title-write").of(cci).of(key).of(id).bytes("bytes", &s).end();
+        title_read(&s);
     }
     // Of a usable half, and of a wiped one whose other bits are all set.
-    flips("title-flip", &title_form(2, KEY, 4), title_line);
-    flips("title-flip", &wiped_title(&[0xff; 16]), title_line);
+    flips(&title_form(2, KEY, 4), title_read);
+    flips(&wiped_title(&[0xff; 16]), title_read);
     for s in [vec![0xff; 16], title_form(2, KEY, 999)] {
-        Line::new("title-wipe").bytes("bytes", &s).bytes("wiped", &wiped_title(&s)).end();
+        Case::new("title-wipe").with(&s).of(F1).bytes("bytes", &wiped_title(&s)).end();
     }
     for (first, key, id) in [(2, KEY, 999), (0, STI, 1)] {
         let s = Half { first, key, flag: 1, id }.form();
-        let line = Line::new("half-write").number("first", first).number("key", key).number("content", id);
-        line.bytes("bytes", &s).end();
+        Case::new("half-write").of(first).of(key).of(id).bytes("bytes", &s).end();
     }
 }
 
@@ -495,20 +527,17 @@ fn rule_halves() {
     ];
     for (key, id, module) in &writes {
         let s = rule_form(*key, module, *id);
-        Line::new("rule-write")
-            .number("trigger", module.trigger)
-            .number("rights", module.rights)
-            .number("permits", module.permits)
-            .number("key", *key)
-            .number("hash", module.hash)
-            .number("content", *id)
+        Case::new("rule-write")
+            .of_all(&[2, module.trigger, module.rights, module.permits, KEY, *key], 6)
+            .of(module.hash)
+            .of(*id)
             .bytes("bytes", &s)
             .end();
-        rule_line(Line::new("rule-read").bytes("bytes", &s), &s);
+        rule_read(&s);
     }
-    flips("rule-flip", &rule_form(STI, &writes[0].2, 4), rule_line);
+    flips(&rule_form(STI, &writes[0].2, 4), rule_read);
     for s in [vec![0xff; 32], rule_form(STI, &writes[0].2, 999)] {
-        Line::new("rule-wipe").bytes("bytes", &s).bytes("wiped", &wiped_rule(&s)).end();
+        Case::new("rule-wipe").with(&s).of_all(&[F1, F2, F3, F4], 4).bytes("bytes", &wiped_rule(&s)).end();
     }
 }
 
@@ -542,12 +571,9 @@ fn entries() {
                         let title = Half { first: cci, key: KEY, flag: title_flag, id: title_id }.form();
                         let mut rule = Half { first: 0, key: STI, flag: rule_flag, id: rule_id }.form().to_vec();
                         rule.extend([0; 16]);
-                        Line::new("entry-kind")
-                            .number("title-flag", title_flag)
-                            .number("title-content", title_id)
-                            .number("cci", cci)
-                            .number("rule-flag", rule_flag)
-                            .number("rule-content", rule_id)
+                        Case::new("entry-kind")
+                            .with(&title)
+                            .with(&rule)
                             .number("kind", entry_kind(&title, &rule))
                             .end();
                     }
@@ -635,37 +661,43 @@ fn rules_check_for(s: &[u8], application: u64) -> u64 {
     }
 }
 
-fn ledger_line(line: Line, s: &[u8]) {
-    line.number("check", ledger_check(s)).end();
+// A case of a table: its head, of which the table may have only a part, and its length.
+fn table(word: &str, head: &[u8], s: &[u8]) -> Case {
+    Case::new(word).with(head).of(s.len() as u64)
 }
 
-fn titles_line(line: Line, s: &[u8]) {
-    line.number("check", titles_check(s)).end();
+fn check_ledger(head: &[u8], s: &[u8]) {
+    table("check-ledger", head, s).number("check", ledger_check(s)).end();
 }
 
-fn rules_line(line: Line, s: &[u8]) {
-    rules_line_for(line, s, APPLICATION);
+fn check_titles(head: &[u8], s: &[u8]) {
+    table("check-titles", head, s).number("check", titles_check(s)).end();
 }
 
-fn rules_line_for(line: Line, s: &[u8], application: u64) {
-    line.number("check", rules_check(s)).number("for", rules_check_for(s, application)).end();
+fn check_rules(head: &[u8], s: &[u8]) {
+    check_rules_for(head, s, APPLICATION);
 }
 
-fn heads_of(name: &str, s: &[u8], head: usize, print: fn(Line, &[u8])) {
-    let fresh = format!("{}-fresh", name);
-    print(Line::new(&fresh).bytes("head", &s[..head]), s);
-    let more = format!("{}-byte", name);
+fn check_rules_for(head: &[u8], s: &[u8], application: u64) {
+    let case = table("check-rules", head, s).of(application);
+    case.number("check", rules_check(s)).number("for", rules_check_for(s, application)).end();
+}
+
+// A table as it is, and with each byte of its head one more.
+fn heads_of(s: &[u8], head: usize, check: fn(&[u8], &[u8])) {
+    check(&s[..head], s);
     for i in 0..head {
         let mut t = s.to_vec();
         t[i] = ((u16::from(t[i]) + 1) % 256) as u8;
-        print(Line::new(&more).number("byte", i as u64).number("value", t[i].into()), &t);
+        check(&t[..head], &t);
     }
 }
 
 fn ledgers() {
     let s = fresh_ledger(2, 72);
-    heads_of("ledger", &s, 24, ledger_line);
-    Line::new("ledger-fields").number("application", word(&s[..2])).number("rows", word(&s[2..4])).end();
+    heads_of(&s, 24, check_ledger);
+    let case = Case::new("head-ledger").with(&s[..24]);
+    case.number("application", word(&s[..2])).number("rows", word(&s[2..4])).end();
     let cases: [(u64, &[usize]); 6] = [
         (0, &[0, 1, 23, 24, 25, 48]),
         (1, &[0, 1, 23, 24, 47, 48, 49, 72]),
@@ -676,39 +708,38 @@ fn ledgers() {
     ];
     for (rows, lengths) in cases {
         for length in lengths {
-            let line = Line::new("ledger-length").number("rows", rows).number("length", *length as u64);
-            ledger_line(line, &fresh_ledger(rows, *length));
+            check_ledger(&fresh_ledger(rows, 24), &fresh_ledger(rows, *length));
         }
     }
 }
 
 fn title_tables() {
     let s = fresh_titles(16000);
-    heads_of("titles", &s, 16, titles_line);
+    heads_of(&s, 16, check_titles);
     for version in [0x08, 0x09, 0x0a, 0x0b, 0x0c, 0x0d, 0x0e, 0x0f, 0x10, 0x11, 0x12] {
         let mut t = s.clone();
         t[3] = version;
-        titles_line(Line::new("titles-version").number("version", version.into()), &t);
+        check_titles(&t[..16], &t);
     }
     for length in [0, 1, 15, 16, 23, 24, 15999, 16000, 16001] {
-        titles_line(Line::new("titles-length").number("length", length as u64), &fresh_titles(length));
+        check_titles(&s[..16], &fresh_titles(length));
     }
 }
 
 fn rule_tables() {
     let s = fresh_rules(32000);
-    heads_of("rules", &s, 32, rules_line);
-    Line::new("rules-fields").number("application", word(&s[8..10])).end();
+    heads_of(&s, 32, check_rules);
+    Case::new("head-rules").with(&s[..32]).number("application", word(&s[8..10])).end();
     for version in [0x10, 0x11, 0x12, 0x13, 0xff] {
         let mut t = s.clone();
         t[3] = version;
-        rules_line(Line::new("rules-version").number("version", version.into()), &t);
+        check_rules(&t[..32], &t);
     }
     for length in [0, 1, 23, 24, 31, 32, 31999, 32000, 32001] {
-        rules_line(Line::new("rules-length").number("length", length as u64), &fresh_rules(length));
+        check_rules(&s[..32], &fresh_rules(length));
     }
     for application in [0, 0x12fe, 0x12ff, 0x1300, 0xff12, 0xffff, 0x112ff, u64::MAX] {
-        rules_line_for(Line::new("rules-for").number("application", application), &s, application);
+        check_rules_for(&s[..32], &s, application);
     }
 }
 
@@ -752,59 +783,54 @@ fn row_facts(s: &[u8]) -> Facts {
 }
 
 // 0 empty, 1 here, 2 away, 3 gone, 4 none of these; the facts where it is here.
-fn row_line(line: Line, s: &[u8]) {
+fn row_state(s: &[u8]) {
+    let case = Case::new("row-state").with(s);
     let f = row_facts(s);
     let facts = [(Cci, f.cci), (Trigger, f.trigger), (Rights, f.rights), (Permits, f.permits)];
     let sound = facts.iter().all(|(a, x)| fault(*a, *x) == 0);
     match s[0] {
-        1 if sound => line
-            .number("state", 1)
+        1 if sound => case
             .number("cci", f.cci)
             .number("trigger", f.trigger)
             .number("rights", f.rights)
             .number("permits", f.permits)
             .number("title-key", f.title_key)
             .number("sti-key", f.sti_key)
+            .number("state", 1)
             .end(),
-        0 | 2 | 3 => line.number("state", s[0].into()).end(),
-        _ => line.number("state", 4).end(),
+        0 | 2 | 3 => case.number("state", s[0].into()).end(),
+        _ => case.number("state", 4).end(),
     }
 }
 
 fn rows() {
     let base = Facts { cci: 2, trigger: 0, rights: 7, permits: 14, title_key: KEY, sti_key: STI };
     for state in [0, 1, 2, 3, 4, 5, 127, 128, 255] {
-        let s = row_form(state, base);
-        row_line(Line::new("row-state").bytes("bytes", &s), &s);
+        row_state(&row_form(state, base));
     }
     for (at, values) in [(1, vec![0, 1, 2, 3, 4, 255]), (2, vec![0, 1, 2, 255]), (3, vec![0, 15, 16, 255]), (4, vec![0, 15, 16, 255])] {
         for value in values {
             let mut s = row_form(1, base);
             s[at] = value;
-            row_line(Line::new("row-state").bytes("bytes", &s), &s);
+            row_state(&s);
         }
     }
-    flips("row-flip", &row_form(1, base), row_line);
+    flips(&row_form(1, base), row_state);
     let most = Facts { cci: 3, trigger: 1, rights: 15, permits: 15, title_key: (1 << 56) - 1, sti_key: (1 << 56) - 1 };
     for f in [base, most] {
-        Line::new("row-write-here")
-            .number("cci", f.cci)
-            .number("trigger", f.trigger)
-            .number("rights", f.rights)
-            .number("permits", f.permits)
-            .number("title-key", f.title_key)
-            .number("sti-key", f.sti_key)
+        Case::new("row-write-here")
+            .of_all(&[f.cci, f.trigger, f.rights, f.permits, f.title_key, f.sti_key], 6)
             .bytes("bytes", &row_form(1, f))
             .end();
     }
     for state in [0, 2, 3] {
         let mut s = vec![0; 24];
         s[0] = state;
-        Line::new("row-write-plain").number("state", state.into()).bytes("bytes", &s).end();
+        Case::new("row-write-plain").of(state.into()).bytes("bytes", &s).end();
     }
     for permits in [0, 14, 15] {
         let mut s = vec![FILL; 24];
         s[4] = permits;
-        Line::new("row-write-permits").number("permits", permits.into()).bytes("bytes", &s).end();
+        Case::new("row-write-permits").of(permits.into()).bytes("bytes", &s).end();
     }
 }

@@ -1,18 +1,116 @@
-// Calls the functions of `formats` at their edges and prints what they answer, a line for each case. What has to be printed
-// is worked out from document 01 by a program of its own.
-mod entries;
+// Runs the cases of standard input, one a line, on the functions of `formats`, and prints each line with ` -> ` and the
+// answer. A line whose word is not known, or whose tokens do not fit, is answered `?`.
+//
+// A line is a word and then tokens, with single spaces between. A token is hexadecimal with two digits a byte, `-` for no
+// bytes: a byte string, or a number in at most 8 bytes, the most significant first. The words and their tokens:
+//
+//   number-len         value
+//   number-write       value, room
+//   number-read        bytes
+//   request-len        kind, nine arguments
+//   request-write      kind, nine arguments, room
+//   request-read       bytes
+//   title-write        CCI, key, content ID
+//   title-read         title half
+//   title-wipe         title half, f1
+//   half-write         byte 0, key, content ID
+//   rule-write         CCI, trigger, rights, permits, title key, STI key, C_HASH, content ID
+//   rule-read          rule half
+//   rule-wipe          rule half, f1, f2, f3, f4
+//   entry-kind         title half, rule half
+//   check-ledger       head, length of the table
+//   check-titles       head, length of the table
+//   check-rules        head, length of the table, the ledger's application number
+//   head-ledger        head
+//   head-rules         head
+//   row-state          row
+//   row-write-here     CCI, trigger, rights, permits, title key, STI key
+//   row-write-plain    state
+//   row-write-permits  permits
+//
+// Arguments that a kind does not have are `-`. A table is its head and zeros, cut to its length. What is written goes over
+// bytes EE (half-write: FF).
 mod halves;
-mod heads;
+mod lines;
 mod numbers;
 mod print;
 mod requests;
-mod rows;
+mod tables;
+
+ghost use mathlib.Core.Path.{_≡_};
+ghost use Prim.Native.Nat.{_≤_};
+ghost use lib.ListN.{length};
+
+// Room for the cases.
+fn room() -> [u8; 262144]
+    ensures { λ r. ⌜ 262144 ≡ length r ⌝ }
+{
+    [0; 262144]
+}
 
 fn main() {
-    numbers::run();
-    requests::run();
-    halves::run();
-    entries::run();
-    heads::run();
-    rows::run();
+    let mut text = room();
+    let n = io::read_full(0, &mut text);
+    cases(&text[..n]);
+}
+
+fn cases(text: &[u8])
+    requires { ⌜ length (now text) ≤ 262144 ⌝ }
+{
+    let mut at = 0;
+    while at < text.len() {
+        let end = lines::until(text, at, 10);
+        case(&text[at..end]);
+        at = end + 1;
+    }
+}
+
+fn case(line: &[u8]) {
+    io::write_all(1, line);
+    io::write_all(1, b" ->");
+    let mut first = [0u8; 128];
+    let n = lines::bytes(line, 1, &mut first);
+    if n <= 128 {
+        answer(line, &first[..n]);
+    } else {
+        print::unknown();
+    }
+    io::write_all(1, b"\n");
+}
+
+// Each word with the counts of its byte strings and of its numbers, one hexadecimal digit each, and below, by its place in
+// that list, what it calls. `s` is token 1.
+fn answer(line: &[u8], s: &[u8]) {
+    match lines::find(
+        line,
+        b"number-len 01 number-write 02 number-read 10 request-len 0a request-write 0b request-read 10 \
+          title-write 03 title-read 10 title-wipe 11 half-write 03 rule-write 08 rule-read 10 rule-wipe 14 entry-kind 20 \
+          check-ledger 11 check-titles 11 check-rules 12 head-ledger 10 head-rules 10 \
+          row-state 10 row-write-here 06 row-write-plain 01 row-write-permits 01",
+    ) {
+        0 => numbers::len(line),
+        1 => numbers::write(line),
+        2 => numbers::read(s),
+        3 => requests::len(line),
+        4 => requests::write(line),
+        5 => requests::read(s),
+        6 => halves::title_write(line),
+        7 => halves::title_read(s),
+        8 => halves::title_wipe(line),
+        9 => halves::half_write(line),
+        10 => halves::rule_write(line),
+        11 => halves::rule_read(s),
+        12 => halves::rule_wipe(line),
+        13 => halves::entry_kind(s, line),
+        14 => tables::check(tables::LEDGER, line),
+        15 => tables::check(tables::TITLES, line),
+        16 => tables::check(tables::RULES, line),
+        17 => tables::ledger_fields(s),
+        18 => tables::rules_fields(s),
+        19 => tables::state(s),
+        20 => tables::write(tables::HERE, line),
+        21 => tables::write(tables::PLAIN, line),
+        22 => tables::write(tables::PERMITS, line),
+        _ => print::unknown(),
+    }
 }

@@ -6,14 +6,23 @@ use borrow.Author.Needs.{needs}
 use Rattle.edges.proofs.requests.write.Statement.{statement}
 use Rattle.edges.proofs.requests.write.Tie as tie
 
-len-requires : tie.Need-len-requires
-len-requires c κs = search needs
+number-requires : tie.Need-number-requires
+number-requires c κs = search needs
+
+unknown-requires : tie.Need-unknown-requires
+unknown-requires c κs = search needs
 
 returns : tie.Need-returns
 returns c = search needs
 
-returns-2 : tie.Need-returns-2
-returns-2 c = search needs
+number-requires-2 : tie.Need-number-requires-2
+number-requires-2 c κs = search needs
+
+numbers-requires : tie.Need-numbers-requires
+numbers-requires c κs = search needs
+
+build-requires : tie.Need-build-requires
+build-requires c κs = search needs
 
 array-borrow-prefix-buffer : tie.Need-array-borrow-prefix-buffer
 array-borrow-prefix-buffer c = search needs
@@ -24,81 +33,24 @@ slice-aggregate-write c = simp length-take (omega arith)
 write-requires : tie.Need-write-requires
 write-requires c κs = search needs
 
-slice-aggregate-what : tie.Need-slice-aggregate-what
-slice-aggregate-what c = search needs
+written-requires : tie.Need-written-requires
+written-requires c κs = search needs
 
-what-requires : tie.Need-what-requires
-what-requires c κs = search needs
-
-slice-aggregate-number : tie.Need-slice-aggregate-number
-slice-aggregate-number c = search needs
-
-number-requires : tie.Need-number-requires
-number-requires c κs = search needs
-
-slice-aggregate-numbers : tie.Need-slice-aggregate-numbers
-slice-aggregate-numbers c = search needs
-
-numbers-requires : tie.Need-numbers-requires
-numbers-requires c κs = search needs
-
-slice-aggregate-number-2 : tie.Need-slice-aggregate-number-2
-slice-aggregate-number-2 c = search needs
-
-number-requires-2 : tie.Need-number-requires-2
-number-requires-2 c κs = search needs
-
-enum-known-answer : tie.Need-enum-known-answer
-enum-known-answer c = search needs
-
-slice-aggregate-number-3 : tie.Need-slice-aggregate-number-3
-slice-aggregate-number-3 c = search needs
-
-number-requires-3 : tie.Need-number-requires-3
-number-requires-3 c κs = search needs
-
-enum-known-answer-2 : tie.Need-enum-known-answer-2
-enum-known-answer-2 c = search needs
-
-slice-aggregate-number-4 : tie.Need-slice-aggregate-number-4
-slice-aggregate-number-4 c = search needs
-
-number-requires-4 : tie.Need-number-requires-4
-number-requires-4 c κs = search needs
-
-add-shown : tie.Need-add-shown
-add-shown c = search needs
-
-shown-requires : tie.Need-shown-requires
-shown-requires c κs = search needs
-
-returns-3 : tie.Need-returns-3
-returns-3 c = search needs
+returns-2 : tie.Need-returns-2
+returns-2 c = search needs
 
 pub write-spec : {M : Type 1} → statement M
 write-spec =
     tie.close
     (tie.spec
-    len-requires
+    number-requires
+    unknown-requires
     returns
-    returns-2
+    number-requires-2
+    numbers-requires
+    build-requires
     array-borrow-prefix-buffer
     slice-aggregate-write
     write-requires
-    slice-aggregate-what
-    what-requires
-    slice-aggregate-number
-    number-requires
-    slice-aggregate-numbers
-    numbers-requires
-    slice-aggregate-number-2
-    number-requires-2
-    enum-known-answer
-    slice-aggregate-number-3
-    number-requires-3
-    enum-known-answer-2
-    slice-aggregate-number-4
-    number-requires-4
-    add-shown
-    shown-requires
-    returns-3)
+    written-requires
+    returns-2)
