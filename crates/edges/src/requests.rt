@@ -1,11 +1,11 @@
 // Requests.
 ghost use mathlib.Core.Path.{_≡_};
+ghost use mathlib.Core.List.{[], _∷_};
 ghost use Prim.Native.Nat.{_≤_};
-ghost use Rattle.formats.specs.Request.{requestOf, kindOf, factsFrom, fillersFrom};
+ghost use lib.ListN.{getD};
+ghost use Rattle.formats.specs.Request.{factsFrom, fillersFrom};
 use crate::lines;
 use crate::print;
-use formats::facts::ContentId;
-use formats::facts::EntryNumber;
 use formats::facts::Facts;
 use formats::facts::Fillers;
 use formats::request;
@@ -39,76 +39,15 @@ pub fn fillers(v: [u64; 12], i: usize) -> Fillers
     }
 }
 
-// The requests with facts. That a request has the kind asked for is left to the answers, here and below.
-fn granting(kind: u64, v: [u64; 12]) -> Request
-    ensures { λ r. ⌜ r ≡ requestOf (kindOf r) v ⌝ }
+// The first nine of the numbers of a line.
+fn nine(v: [u64; 12]) -> [u64; 9]
+    ensures { λ r. ⌜ r ≡ getD v 0 0 ∷ getD v 1 0 ∷ getD v 2 0 ∷ getD v 3 0 ∷ getD v 4 0 ∷ getD v 5 0 ∷ getD v 6 0 ∷ getD v 7 0 ∷ getD v 8 0 ∷ [] ⌝ }
 {
-    let content = ContentId(v[0]);
-    if kind == 1 {
-        return Request::Register {
-            content,
-            facts: facts(v, 1),
-        };
-    }
-    Request::Record {
-        content,
-        entry: EntryNumber(v[1]),
-        facts: facts(v, 2),
-        hash: v[8],
-    }
-}
-
-// The requests with four fillers.
-fn wiping(kind: u64, v: [u64; 12]) -> Request
-    ensures { λ r. ⌜ r ≡ requestOf (kindOf r) v ⌝ }
-{
-    let entry = EntryNumber(v[0]);
-    if kind == 5 {
-        return Request::MoveOut {
-            entry,
-            hash: v[1],
-            fillers: fillers(v, 2),
-        };
-    }
-    Request::Delete {
-        entry,
-        fillers: fillers(v, 1),
-    }
-}
-
-// The other requests.
-fn short(kind: u64, v: [u64; 12]) -> Request
-    ensures { λ r. ⌜ r ≡ requestOf (kindOf r) v ⌝ }
-{
-    let content = ContentId(v[0]);
-    let entry = EntryNumber(v[1]);
-    match kind {
-        3 => Request::CheckOut { content, entry },
-        4 => Request::CheckIn {
-            entry: EntryNumber(v[0]),
-            f1: v[1],
-        },
-        _ => Request::MoveIn {
-            content,
-            entry,
-            hash: v[2],
-        },
-    }
-}
-
-// The request of a kind from 1 to 7 with these arguments.
-fn build(kind: u64, v: [u64; 12]) -> Request
-    ensures { λ r. ⌜ r ≡ requestOf (kindOf r) v ⌝ }
-{
-    match kind {
-        1 | 2 => granting(kind, v),
-        5 | 7 => wiping(kind, v),
-        _ => short(kind, v),
-    }
+    [v[0], v[1], v[2], v[3], v[4], v[5], v[6], v[7], v[8]]
 }
 
 pub fn len(line: &[u8]) {
-    let request = build(lines::number(line, 1), lines::numbers(line, 2));
+    let request = request::request_of(lines::number(line, 1), nine(lines::numbers(line, 2)));
     let n = request::len(request);
     print::list(b"length limit", &[n as u64, request::limit(request)]);
 }
@@ -121,7 +60,7 @@ pub fn write(line: &[u8]) {
         print::unknown();
         return;
     }
-    let request = build(lines::number(line, 1), lines::numbers(line, 2));
+    let request = request::request_of(lines::number(line, 1), nine(lines::numbers(line, 2)));
     let answer = request::write(request, &mut buffer[..room as usize]);
     print::written(answer, &buffer);
 }

@@ -254,8 +254,9 @@ fn fillers_from(v: [u64; 9], i: usize) -> Fillers
     }
 }
 
-// The request of a kind from 1 to 7 with these values.
-fn request_of(kind: u64, v: [u64; 9]) -> Request
+// The request of a kind from 1 to 7 with these values, of which it takes as many as the kind has arguments. Their limits are
+// not tested here.
+pub fn request_of(kind: u64, v: [u64; 9]) -> Request
     ensures { λ r. ⌜ r ≡ requestOf kind v ⌝ }
 {
     match kind {

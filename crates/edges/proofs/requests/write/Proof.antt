@@ -21,8 +21,11 @@ number-requires-2 c κs = search needs
 numbers-requires : tie.Need-numbers-requires
 numbers-requires c κs = search needs
 
-build-requires : tie.Need-build-requires
-build-requires c κs = search needs
+nine-requires : tie.Need-nine-requires
+nine-requires c κs = search needs
+
+request-of-requires : tie.Need-request-of-requires
+request-of-requires c κs = search needs
 
 array-borrow-prefix-buffer : tie.Need-array-borrow-prefix-buffer
 array-borrow-prefix-buffer c = search needs
@@ -48,7 +51,8 @@ write-spec =
     returns
     number-requires-2
     numbers-requires
-    build-requires
+    nine-requires
+    request-of-requires
     array-borrow-prefix-buffer
     slice-aggregate-write
     write-requires
