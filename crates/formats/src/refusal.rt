@@ -18,3 +18,17 @@ pub const LEDGER: u64 = 7;
 pub const TITLES: u64 = 8;
 // The rule table's length or head is wrong, or its application number is not the ledger's.
 pub const RULES: u64 = 9;
+// The entry is not of the kind that the call needs.
+pub const KIND_OF_ENTRY: u64 = 10;
+// The row is above R, or not in the state that the call needs.
+pub const STATE_OF_ROW: u64 = 11;
+// No permit is left to check out; or the trigger forbids a move, or no move right is left.
+pub const NOTHING_LEFT: u64 = 12;
+// A move out: the given C_HASH is not the stored one.
+pub const HASH: u64 = 13;
+// A move in: a copy of the title is on the card.
+pub const COPY_OUT: u64 = 14;
+// A check-in: the permits are 14 already.
+pub const PERMITS_FULL: u64 = 15;
+// A filler would leave the key that it is to overwrite.
+pub const FILLER: u64 = 16;

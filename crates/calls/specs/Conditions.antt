@@ -1,0 +1,86 @@
+-- The refusal conditions of the seven calls: "Checks of a call .. go in number order over what it takes."
+use Prim.Native.Nat.{ℕ, _%_, _^_}
+use mathlib.Core.List.{List, [], _∷_, _++_}
+use mathlib.Core.Bool.{Bool, not, _&&_, _||_}
+use lib.Dec.{leb, eqb}
+use Rattle.formats.specs.Facts.{inRange, keyPasses}
+use Rattle.formats.specs.Half.{keyOf}
+use Rattle.formats.specs.Rule.{hashOf}
+use Rattle.formats.specs.Head.{ledgerPasses, ledgerApplication, titlesPass, rulesPass, rulesApplication}
+use Rattle.formats.specs.declared.facts.Facts.{Facts}
+use Rattle.formats.specs.declared.request.Request.{Request}
+use Rattle.formats.specs.declared.request.Request.the-variants.{Register, Record, CheckOut, CheckIn, MoveOut, MoveIn, Delete}
+use Rattle.calls.specs.Buffers.{Buffers, titleAt, ruleAt, stateAt, rowFacts, kindAt, contentAt, factsAt, isFree, isCopy, isFull, isEmpty, isHere, isAway, copies}
+use Rattle.calls.specs.Refusal.{Condition, _when_, _unless_}
+
+-- "1 to 999"
+abbrev pub numbered : ℕ → Bool
+numbered v = leb 1 v && leb v 999
+
+-- "CCI 1 or above 3, trigger above 1, rights or permits above 15, a key of 2^56 or more" all fail
+abbrev pub factsPass : Facts → Bool
+factsPass f = inRange f && (keyPasses (f .«title_key») && keyPasses (f .«sti_key»))
+
+-- 4 c not 1 to 999; 5 j not 1 to 999; 6 the facts
+abbrev pub arguments : Request → List Condition
+arguments (Register c f) = 4 unless numbered (c .0) ∷ 6 unless factsPass f ∷ []
+arguments (Record c j f h) = 4 unless numbered (c .0) ∷ 5 unless numbered (j .0) ∷ 6 unless factsPass f ∷ []
+arguments (CheckOut c j) = 4 unless numbered (c .0) ∷ 5 unless numbered (j .0) ∷ []
+arguments (CheckIn j f1) = 5 unless numbered (j .0) ∷ []
+arguments (MoveOut j h f) = 5 unless numbered (j .0) ∷ []
+arguments (MoveIn c j h) = 4 unless numbered (c .0) ∷ 5 unless numbered (j .0) ∷ []
+arguments (Delete j f) = 5 unless numbered (j .0) ∷ []
+
+-- 7 ledger length or head wrong; 8 title table length or head wrong; 9 rule table likewise, its application number other
+-- than the ledger's included
+abbrev pub allHeads : Buffers → List Condition
+allHeads b =
+    7 unless ledgerPasses (b .ledger) ∷ 8 unless titlesPass (b .titles)
+    ∷ 9 unless (rulesPass (b .rules) && eqb (rulesApplication (b .rules)) (ledgerApplication (b .ledger))) ∷ []
+
+-- "Register is lent the ledger only."
+abbrev pub heads : Request → Buffers → List Condition
+heads (Register c f) b = 7 unless ledgerPasses (b .ledger) ∷ []
+heads (Record c j f h) b = allHeads b
+heads (CheckOut c j) b = allHeads b
+heads (CheckIn j f1) b = allHeads b
+heads (MoveOut j h f) b = allHeads b
+heads (MoveIn c j h) b = allHeads b
+heads (Delete j f) b = allHeads b
+
+-- "trigger 1 or rights 0"
+abbrev pub mayNotMove : Facts → Bool
+mayNotMove f = eqb (f .trigger) 1 || eqb (f .rights) 0
+
+-- "f1 mod 2^56 is the wiped title key", "f2 mod 2^56 the STI key": the filler would leave the key of this half
+abbrev pub leavesKey : ℕ → List ℕ → Bool
+leavesKey filler half = eqb (filler % 2 ^ 56) (keyOf half)
+
+-- 10 entry j not of the kind the call needs; 11 row above R or not in the state needed; 12 check-out with permits 0, move
+-- with trigger 1 or rights 0 (the entry's on a move out, the row's on a move in); 13 move out: h differs from the stored
+-- C_HASH; 14 move in: a copy of c on the card; 15 check-in: permits are 14; 16 f1 leaves the title key, or (full entries)
+-- f2 the STI key
+abbrev pub state : Request → Buffers → List Condition
+state (Register c f) b = 11 unless isEmpty (stateAt b (c .0)) ∷ []
+state (Record c j f h) b = 10 unless isFree (kindAt b (j .0)) ∷ 11 unless isEmpty (stateAt b (c .0)) ∷ []
+state (CheckOut c j) b =
+    10 unless isFree (kindAt b (j .0)) ∷ 11 unless isHere (stateAt b (c .0)) ∷ 12 when eqb (rowFacts b (c .0) .permits) 0 ∷ []
+state (CheckIn j f1) b =
+    10 unless isCopy (kindAt b (j .0)) ∷ 11 unless isHere (stateAt b (contentAt b (j .0)))
+    ∷ 15 when eqb (rowFacts b (contentAt b (j .0)) .permits) 14 ∷ 16 when leavesKey f1 (titleAt (b .titles) (j .0)) ∷ []
+state (MoveOut j h f) b =
+    10 unless isFull (kindAt b (j .0)) ∷ 11 unless isAway (stateAt b (contentAt b (j .0)))
+    ∷ 12 when mayNotMove (factsAt b (j .0)) ∷ 13 unless eqb h (hashOf (ruleAt (b .rules) (j .0)))
+    ∷ 16 when (leavesKey (f .f1) (titleAt (b .titles) (j .0)) || leavesKey (f .f2) (ruleAt (b .rules) (j .0))) ∷ []
+state (MoveIn c j h) b =
+    10 unless isFree (kindAt b (j .0)) ∷ 11 unless isHere (stateAt b (c .0)) ∷ 12 when mayNotMove (rowFacts b (c .0))
+    ∷ 14 unless eqb (copies (c .0) (b .titles) (b .rules)) 0 ∷ []
+state (Delete j f) b =
+    10 unless (isCopy (kindAt b (j .0)) || isFull (kindAt b (j .0)))
+    ∷ 11 when (isFull (kindAt b (j .0)) && not (isAway (stateAt b (contentAt b (j .0)))))
+    ∷ 16 when (leavesKey (f .f1) (titleAt (b .titles) (j .0)) || (isFull (kindAt b (j .0)) && leavesKey (f .f2) (ruleAt (b .rules) (j .0))))
+    ∷ []
+
+-- all of them, in number order
+unfoldable pub conditions : Request → Buffers → List Condition
+conditions k b = arguments k ++ (heads k b ++ state k b)

@@ -1,0 +1,52 @@
+-- A call on the buffers: its answer, and the buffers after it.
+use Prim.Native.Nat.{ℕ, _<_}
+use mathlib.Core.Path.{_≡_}
+use mathlib.Core.Logic.{_≢_}
+use mathlib.Core.List.{List}
+use mathlib.Core.Bool.{cond}
+use lib.Dec.{eqb}
+use lib.ListN.{length, getD}
+use Rattle.formats.specs.declared.request.Request.{Request}
+use Rattle.calls.specs.Buffers.{Buffers}
+use Rattle.calls.specs.Refusal.{first, FirstToHold, NoneHolds}
+use Rattle.calls.specs.Conditions.{conditions}
+use Rattle.calls.specs.Effect.{effect}
+
+pub record Performed : Type 0 where
+  pub answer : ℕ
+  pub buffers : Buffers
+
+unfoldable pub refusal : Request → Buffers → ℕ
+refusal k b = first (conditions k b)
+
+-- "A refusal changes no byte of any buffer."
+unfoldable pub perform : Request → Buffers → Performed
+perform k b = record { answer = refusal k b; buffers = cond (eqb (refusal k b) 0) (effect k b) b }
+
+-- Demand 1, of one call on any buffers: "every call that meets a refusal condition .. gets that number, the first in the
+-- order .., and no byte changes. Accepted then: every other call"
+pub record RefusedFirst (k : Request) (b : Buffers) : Type 0 where
+  -- a number other than 0 is answered where its condition holds and none before it, and only there
+  pub refused : (n : ℕ) → n ≢ 0 → FirstToHold n (conditions k b) → perform k b .answer ≡ n
+  pub only-refused : (n : ℕ) → n ≢ 0 → perform k b .answer ≡ n → FirstToHold n (conditions k b)
+  pub unchanged : perform k b .answer ≢ 0 → perform k b .buffers ≡ b
+  -- 0 is answered where no condition holds, and only there
+  pub accepted : NoneHolds (conditions k b) → perform k b .answer ≡ 0
+  pub only-accepted : perform k b .answer ≡ 0 → NoneHolds (conditions k b)
+  pub carried-out : perform k b .answer ≡ 0 → perform k b .buffers ≡ effect k b
+
+-- a list of bytes
+abbrev pub Bytes : List ℕ → Type 0
+Bytes l = (i : ℕ) → getD l i 0 < 256
+
+pub record AreBytes (b : Buffers) : Type 0 where
+  pub ledger : Bytes (b .ledger)
+  pub titles : Bytes (b .titles)
+  pub rules : Bytes (b .rules)
+
+-- "and each one ends in bounds": every buffer keeps its length, and what holds bytes holds bytes
+pub record InBounds (b after : Buffers) : Type 0 where
+  pub ledger-length : length (after .ledger) ≡ length (b .ledger)
+  pub titles-length : length (after .titles) ≡ length (b .titles)
+  pub rules-length : length (after .rules) ≡ length (b .rules)
+  pub stay-bytes : AreBytes b → AreBytes after

@@ -1,0 +1,31 @@
+-- Refusal conditions with their numbers, and the answer that they give.
+use Prim.Native.Nat.{ℕ}
+use mathlib.Core.Path.{_≡_}
+use mathlib.Core.Logic.{_⊎_}
+use mathlib.Core.List.{List, [], _∷_}
+use mathlib.Core.Bool.{Bool, true, false, not, cond}
+
+-- a condition and the number that it is refused with
+pub data Condition : Type 0 where
+  _when_ : ℕ → Bool → Condition
+
+-- the condition that a test fails
+abbrev pub _unless_ : ℕ → Bool → Condition
+n unless b = n when not b
+
+infix 70 _when_
+infix 70 _unless_
+-- "the first in the order": the number of the first condition that holds; "Done is 0"
+unfoldable pub first : List Condition → ℕ
+first [] = 0
+first ((n when b) ∷ rest) = cond b n (first rest)
+
+-- condition n holds, and none before it
+abbrev pub FirstToHold : ℕ → List Condition → Type 0
+FirstToHold n [] = ⊥
+FirstToHold n ((m when b) ∷ rest) = ((b ≡ true) × (m ≡ n)) ⊎ ((b ≡ false) × FirstToHold n rest)
+
+-- no condition holds
+abbrev pub NoneHolds : List Condition → Type 0
+NoneHolds [] = Unit
+NoneHolds ((m when b) ∷ rest) = (b ≡ false) × NoneHolds rest
