@@ -32,9 +32,12 @@ titleAt titles j = part titles (16 * j) 16
 abbrev pub ruleAt : List ℕ → ℕ → List ℕ
 ruleAt rules j = part rules (32 * j) 32
 
--- the state of row c; a row above R, of which there is none, is in no state
-unfoldable pub stateAt : Buffers → ℕ → RowState
-stateAt b c = cond (leb 1 c && leb c (rowsOf (b .ledger))) (stateOf (rowAt (b .ledger) c)) NoState
+-- the state of row c of a ledger; a row above R, of which there is none, is in no state
+unfoldable pub stateIn : List ℕ → ℕ → RowState
+stateIn ledger c = cond (leb 1 c && leb c (rowsOf ledger)) (stateOf (rowAt ledger c)) NoState
+
+abbrev pub stateAt : Buffers → ℕ → RowState
+stateAt b c = stateIn (b .ledger) c
 
 abbrev pub noFacts : Facts
 noFacts = record { cci = 0; trigger = 0; rights = 0; permits = 0; «title_key» = 0; «sti_key» = 0 }
