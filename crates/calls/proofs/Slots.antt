@@ -11,7 +11,7 @@ use Rattle.formats.specs.Part.{part, put}
 use Rattle.formats.proofs.Part.{part-put-same, part-put-before, part-put-after}
 
 -- a slot ends where the next begins
-slot-ends : (width i j : ℕ) → i < j → width * i + width ≤ width * j
+pub slot-ends : (width i j : ℕ) → i < j → width * i + width ≤ width * j
 slot-ends width i zero less = omega arith
 slot-ends width i (suc j) less =
     elim (decLt i j) [ yes l ↦ let before = slot-ends width i j l in omega arith | no l ↦ let e : i ≡ j = omega arith in rw e (omega arith) ]
