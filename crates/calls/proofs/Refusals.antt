@@ -1,0 +1,147 @@
+-- The laws of the first condition that holds, and demand 1 of every call.
+-- Assumes nothing.
+use Prim.Native.Nat.{ℕ}
+use mathlib.Core.Path.{_≡_, refl, sym, ap, _∙_}
+use mathlib.Core.Logic.{_≢_, inl, inr}
+use mathlib.Core.List.{List, [], _∷_, _++_}
+use mathlib.Core.Bool.{Bool, true, false, not, _&&_, cond, true≢false}
+use lib.Dec.{eqb}
+use borrow.Author.Tests.{le-ltb, lt-ltb, le-leb, lt-leb, eq-eqb, ne-eqb, eqb-false, not-true, not-false}
+use Rattle.formats.specs.declared.request.Request.{Request}
+use Rattle.formats.specs.declared.request.Request.the-variants.{Register, Record, CheckOut, CheckIn, MoveOut, MoveIn, Delete}
+use Rattle.formats.proofs.Tests.{split}
+use Rattle.calls.specs.Buffers.{Buffers}
+use Rattle.calls.specs.Refusal.{Condition, _when_, first, FirstToHold, NoneHolds}
+use Rattle.calls.specs.Conditions.{conditions}
+use Rattle.calls.specs.Effect.{effect}
+use Rattle.calls.specs.Perform.{refusal, perform, RefusedFirst}
+
+-- no condition has the number 0, which is the answer of a call that is done
+abbrev pub refusing : List Condition → Bool
+refusing [] = true
+refusing ((n when b) ∷ rest) = not (eqb n 0) && refusing rest
+
+-- neither the first of them nor those after it
+other-than-0 : (n : ℕ) (rest : List Condition) → (not (eqb n 0) && refusing rest) ≡ true → (n ≢ 0) × (refusing rest ≡ true)
+other-than-0 n rest r =
+    let (p, q) = split (not (eqb n 0)) (refusing rest) r in
+    (eqb-false n 0 (not-true (eqb n 0) p), q)
+
+-- ONE CONDITION AFTER THE OTHER, as code tests them
+
+-- a condition that holds gives the answer
+pub hit : (n : ℕ) (b : Bool) (rest : List Condition) → b ≡ true → n ≡ first ((n when b) ∷ rest)
+unfolding first
+hit n b rest e = sym (ap (λ (x : Bool). cond x n (first rest)) e)
+
+-- one that does not hold leaves it to the others
+pub skip : (m n : ℕ) (b : Bool) (rest : List Condition) → b ≡ false → n ≡ first rest → n ≡ first ((m when b) ∷ rest)
+unfolding first
+skip m n b rest e q = q ∙ sym (ap (λ (x : Bool). cond x m (first rest)) e)
+
+-- where none is left, the call is done
+pub end : 0 ≡ first []
+unfolding first
+end = refl
+
+-- a test that holds is no condition that holds, and a test that fails is one
+pub holds-not : {b : Bool} → b ≡ true → not b ≡ false
+holds-not e = ap not e
+
+pub fails-so : {b : Bool} → b ≡ false → not b ≡ true
+fails-so e = ap not e
+
+-- for `search`: an answer from the tests that led to it
+pub ruleset firsts = (hit, skip, end, holds-not, fails-so, not-true, not-false, lt-ltb, le-ltb, le-leb, lt-leb, eq-eqb, ne-eqb)
+
+-- IN STAGES
+
+-- a stage that refuses gives the answer
+pub first-stage : (cs ds : List Condition) → first cs ≢ 0 → first cs ≡ first (cs ++ ds)
+unfolding first
+first-stage [] ds h = absurd (h refl)
+first-stage ((n when true) ∷ cs) ds h = refl
+first-stage ((n when false) ∷ cs) ds h = first-stage cs ds h
+
+-- one that does not leaves it to the next
+pub next-stage : (cs ds : List Condition) → refusing cs ≡ true → first cs ≡ 0 → first ds ≡ first (cs ++ ds)
+unfolding first
+next-stage [] ds r e = refl
+next-stage ((n when true) ∷ cs) ds r e = absurd (other-than-0 n cs r .0 e)
+next-stage ((n when false) ∷ cs) ds r e = next-stage cs ds (other-than-0 n cs r .1) e
+
+-- THE ANSWER AND THE CONDITIONS
+
+-- the number of the first condition that holds is the answer
+pub of-first : (n : ℕ) (cs : List Condition) → FirstToHold n cs → first cs ≡ n
+unfolding first
+of-first n ((m when true) ∷ cs) (inl h) = h .1
+of-first n ((m when true) ∷ cs) (inr h) = absurd (true≢false (h .0))
+of-first n ((m when false) ∷ cs) (inl h) = absurd (true≢false (sym (h .0)))
+of-first n ((m when false) ∷ cs) (inr h) = of-first n cs (h .1)
+
+-- an answer other than 0 is the number of the first condition that holds
+pub to-first : (n : ℕ) (cs : List Condition) → n ≢ 0 → first cs ≡ n → FirstToHold n cs
+unfolding first
+to-first n [] some e = absurd (some (sym e))
+to-first n ((m when true) ∷ cs) some e = inl (refl, e)
+to-first n ((m when false) ∷ cs) some e = inr (refl, to-first n cs some e)
+
+-- the answer is 0 where no condition holds
+pub of-none : (cs : List Condition) → NoneHolds cs → first cs ≡ 0
+unfolding first
+of-none [] h = refl
+of-none ((m when true) ∷ cs) h = absurd (true≢false (h .0))
+of-none ((m when false) ∷ cs) h = of-none cs (h .1)
+
+-- and only there
+pub to-none : (cs : List Condition) → refusing cs ≡ true → first cs ≡ 0 → NoneHolds cs
+unfolding first
+to-none [] r e = tt
+to-none ((m when true) ∷ cs) r e = absurd (other-than-0 m cs r .0 e)
+to-none ((m when false) ∷ cs) r e = (refl, to-none cs (other-than-0 m cs r .1) e)
+
+-- THE CALLS
+
+-- no call has a condition 0
+pub conditions-refuse : (k : Request) (b : Buffers) → refusing (conditions k b) ≡ true
+unfolding conditions
+conditions-refuse (Register c f) b = refl
+conditions-refuse (Record c j f h) b = refl
+conditions-refuse (CheckOut c j) b = refl
+conditions-refuse (CheckIn j f1) b = refl
+conditions-refuse (MoveOut j h f) b = refl
+conditions-refuse (MoveIn c j h) b = refl
+conditions-refuse (Delete j f) b = refl
+
+module _ (k : Request) (b : Buffers) where
+  -- a call answers what the first of its conditions that holds says
+  pub answer-first : perform k b .answer ≡ first (conditions k b)
+  unfolding perform refusal
+  answer-first = refl
+
+  -- refused, it changes no byte
+  pub unchanged : perform k b .answer ≢ 0 → perform k b .buffers ≡ b
+  unfolding perform
+  unchanged some = simp (ne-eqb (refusal k b) 0 some)
+
+  -- done, it leaves its effect
+  pub carried-out : perform k b .answer ≡ 0 → perform k b .buffers ≡ effect k b
+  unfolding perform
+  carried-out zero = simp (eq-eqb (refusal k b) 0 zero)
+
+  -- done, none of its conditions holds
+  pub none-holds : perform k b .answer ≡ 0 → NoneHolds (conditions k b)
+  none-holds zero = to-none (conditions k b) (conditions-refuse k b) (sym answer-first ∙ zero)
+
+-- Demand 1: a call that meets a condition gets the number of the first one and changes nothing; every other call is done.
+pub refused-first : (k : Request) (b : Buffers) → RefusedFirst k b
+refused-first k b =
+    record {
+      refused = λ n some h. answer-first k b ∙ of-first n (conditions k b) h;
+      only-refused = λ n some e. to-first n (conditions k b) some (sym (answer-first k b) ∙ e);
+      unchanged = unchanged k b;
+      accepted = λ h. answer-first k b ∙ of-none (conditions k b) h;
+      only-accepted = none-holds k b;
+      carried-out = carried-out k b;
+    }
