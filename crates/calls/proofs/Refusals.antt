@@ -4,12 +4,12 @@ use Prim.Native.Nat.{ℕ}
 use mathlib.Core.Path.{_≡_, refl, sym, ap, _∙_}
 use mathlib.Core.Logic.{_≢_, inl, inr}
 use mathlib.Core.List.{List, [], _∷_, _++_}
-use mathlib.Core.Bool.{Bool, true, false, not, _&&_, cond, true≢false}
+use mathlib.Core.Bool.{Bool, true, false, not, _&&_, _||_, cond, true≢false}
 use lib.Dec.{eqb}
 use borrow.Author.Tests.{le-ltb, lt-ltb, le-leb, lt-leb, eq-eqb, ne-eqb, eqb-false, not-true, not-false}
 use Rattle.formats.specs.declared.request.Request.{Request}
 use Rattle.formats.specs.declared.request.Request.the-variants.{Register, Record, CheckOut, CheckIn, MoveOut, MoveIn, Delete}
-use Rattle.formats.proofs.Tests.{split}
+use Rattle.formats.proofs.Tests.{split, one-holds}
 use Rattle.calls.specs.Buffers.{Buffers}
 use Rattle.calls.specs.Refusal.{Condition, _when_, first, FirstToHold, NoneHolds}
 use Rattle.calls.specs.Conditions.{conditions}
@@ -70,6 +70,13 @@ next-stage [] ds r e = refl
 next-stage ((n when true) ∷ cs) ds r e = absurd (other-than-0 n cs r .0 e)
 next-stage ((n when false) ∷ cs) ds r e = next-stage cs ds (other-than-0 n cs r .1) e
 
+-- so does one of which none holds
+pub past : (cs ds : List Condition) → NoneHolds cs → first (cs ++ ds) ≡ first ds
+unfolding first
+past [] ds h = refl
+past ((n when true) ∷ cs) ds h = absurd (true≢false (h .0))
+past ((n when false) ∷ cs) ds h = past cs ds (h .1)
+
 -- THE ANSWER AND THE CONDITIONS
 
 -- the number of the first condition that holds is the answer
@@ -100,6 +107,18 @@ unfolding first
 to-none [] r e = tt
 to-none ((m when true) ∷ cs) r e = absurd (other-than-0 m cs r .0 e)
 to-none ((m when false) ∷ cs) r e = (refl, to-none cs (other-than-0 m cs r .1) e)
+
+-- a condition of number n holds
+abbrev pub meets : ℕ → List Condition → Bool
+meets n [] = false
+meets n ((m when b) ∷ rest) = (eqb m n && b) || meets n rest
+
+-- "Each number is returned on its condition and on no other."
+pub only-met : (n : ℕ) (cs : List Condition) → n ≢ 0 → first cs ≡ n → meets n cs ≡ true
+unfolding first
+only-met n [] some e = absurd (some (sym e))
+only-met n ((m when true) ∷ cs) some e = ap (λ (x : Bool). (x && true) || meets n cs) (eq-eqb m n e)
+only-met n ((m when false) ∷ cs) some e = one-holds {a = eqb m n && false} (inr (only-met n cs some e))
 
 -- THE CALLS
 

@@ -5,3 +5,4 @@ pub mod Conditions
 pub mod Effect
 pub mod Perform
 pub mod History
+pub mod Examples

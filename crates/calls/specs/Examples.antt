@@ -1,0 +1,164 @@
+-- "Ten examples to carry as theorems": each line of the paper's table beside its part.
+use Prim.Native.Nat.{ℕ, _-_, _^_}
+use mathlib.Core.Path.{_≡_}
+use mathlib.Core.Logic.{_≢_}
+use mathlib.Core.List.{List, [], _∷_}
+use mathlib.Core.Bool.{true, false}
+use lib.ListN.{length, getD}
+use Rattle.formats.specs.Number.{groups, readNumber}
+use Rattle.formats.specs.Request.{kindOf as callOf, written, readRequest}
+use Rattle.formats.specs.Half.{keyOf, flagOf, idOf, usableOf}
+use Rattle.formats.specs.Title.{cciOf, titleHalf}
+use Rattle.formats.specs.Entry.{kindOf}
+use Rattle.formats.specs.Head.{ledgerPasses, ledgerApplication, tablePasses, titlesPass, rulesApplication}
+use Rattle.formats.specs.declared.facts.ContentId.{ContentId}
+use Rattle.formats.specs.declared.facts.EntryNumber.{EntryNumber}
+use Rattle.formats.specs.declared.facts.Fillers.{Fillers}
+use Rattle.formats.specs.declared.number.NumberRead.the-variants.{Number, Refused as NoNumber}
+use Rattle.formats.specs.declared.request.Request.{Request}
+use Rattle.formats.specs.declared.request.Request.the-variants.{CheckOut, CheckIn, MoveOut, MoveIn}
+use Rattle.formats.specs.declared.request.RequestRead.the-variants.{Read, Refused}
+use Rattle.formats.specs.declared.entry.EntryKind.the-variants.{Copy, Full, Torn}
+use Rattle.calls.specs.Buffers.{Buffers, stateAt, rowFacts, kindAt, contentAt, factsAt, isHere}
+use Rattle.calls.specs.Refusal.{NoneHolds}
+use Rattle.calls.specs.Conditions.{arguments, allHeads}
+use Rattle.calls.specs.Perform.{perform, AreBytes}
+
+-- a number and its bytes, as it is written and as it is read
+abbrev pub Is : ℕ → List ℕ → Type 0
+Is n bytes = (groups n ≡ bytes) × (readNumber bytes ≡ Number n (length bytes))
+
+-- E1: 127 is 7Fh; 128 is 80h 01h; 999 is E7h 07h
+abbrev pub E1 : Type 0
+E1 = Is 127 (0x7F ∷ []) × Is 128 (0x80 ∷ 0x01 ∷ []) × Is 999 (0xE7 ∷ 0x07 ∷ [])
+
+-- E2: 80h 00h: 2; 80h alone: 1
+abbrev pub E2 : Type 0
+E2 = ((rest : List ℕ) → readNumber (0x80 ∷ 0x00 ∷ rest) ≡ NoNumber 2) × (readNumber (0x80 ∷ []) ≡ NoNumber 1)
+
+-- nine bytes FFh, and others after them
+abbrev pub nineThen : List ℕ → List ℕ
+nineThen rest = 0xFF ∷ 0xFF ∷ 0xFF ∷ 0xFF ∷ 0xFF ∷ 0xFF ∷ 0xFF ∷ 0xFF ∷ 0xFF ∷ rest
+
+-- E3: 2^64 - 1 is nine bytes FFh, then 01h; with 02h last: 2
+abbrev pub E3 : Type 0
+E3 = Is (2 ^ 64 - 1) (nineThen (0x01 ∷ [])) × ((rest : List ℕ) → readNumber (nineThen (0x02 ∷ rest)) ≡ NoNumber 2)
+
+abbrev pub checkOut : ℕ → ℕ → Request
+checkOut row entry = CheckOut (record { 0 = row }) (record { 0 = entry })
+
+-- a request and its bytes, as it is written and as it is read
+abbrev pub Says : Request → List ℕ → Type 0
+Says q bytes = (written q ≡ bytes) × (readRequest bytes ≡ Read q (length bytes))
+
+-- E4: check-out of row 5 to entry 999: 03 05 E7 07
+abbrev pub E4 : Type 0
+E4 = Says (checkOut 5 999) (0x03 ∷ 0x05 ∷ 0xE7 ∷ 0x07 ∷ [])
+
+-- a title half that is written with a CCI, a key and an ID is these bytes; they make a copy, beside any rule half that is
+-- not usable, and CCI, key and ID are read from them
+pub record IsCopy (cci key id : ℕ) (bytes : List ℕ) : Type 0 where
+  pub written : titleHalf cci key id ≡ bytes
+  pub copy : (r : List ℕ) → usableOf r ≡ false → kindOf bytes r ≡ Copy
+  pub cci-read : cciOf bytes ≡ cci
+  pub key-read : keyOf bytes ≡ key
+  pub id-read : idOf bytes ≡ id
+
+-- E5: copy, CCI 2, key 11223344556677h, ID 999: 02 11 22 33 44 55 66 77 80 00 00 00 00 00 03 E7
+abbrev pub E5 : Type 0
+E5 =
+    IsCopy 2 0x11223344556677 999
+    (0x02 ∷ 0x11 ∷ 0x22 ∷ 0x33 ∷ 0x44 ∷ 0x55 ∷ 0x66 ∷ 0x77 ∷ 0x80 ∷ 0x00 ∷ 0x00 ∷ 0x00 ∷ 0x00 ∷ 0x00 ∷ 0x03 ∷ 0xE7 ∷ [])
+
+-- row c is here with these facts' rights, or permits
+pub record RightsInRow (b : Buffers) (c rights : ℕ) : Type 0 where
+  pub here : isHere (stateAt b c) ≡ true
+  pub are : rowFacts b c .rights ≡ rights
+
+pub record PermitsInRow (b : Buffers) (c permits : ℕ) : Type 0 where
+  pub here : isHere (stateAt b c) ≡ true
+  pub are : rowFacts b c .permits ≡ permits
+
+-- entry j is full with ID c and these rights
+pub record RightsInEntry (b : Buffers) (j c rights : ℕ) : Type 0 where
+  pub full : kindAt b j ≡ Full
+  pub id : contentAt b j ≡ c
+  pub are : factsAt b j .rights ≡ rights
+
+-- a move of rights `before` is not refused for them, and done it leaves `after`: those of the row on a move out, those of
+-- the entry on a move in
+pub record Moves (before after : ℕ) : Type 0 where
+  pub may-move-out : (b : Buffers) (j : EntryNumber) (h : ℕ) (f : Fillers) → factsAt b (j .0) .rights ≡ before
+      → factsAt b (j .0) .trigger ≢ 1 → perform (MoveOut j h f) b .answer ≢ 12
+  pub moved-out : (b : Buffers) (j : EntryNumber) (h : ℕ) (f : Fillers) → AreBytes b → factsAt b (j .0) .rights ≡ before
+      → perform (MoveOut j h f) b .answer ≡ 0 → RightsInRow (perform (MoveOut j h f) b .buffers) (contentAt b (j .0)) after
+  pub may-move-in : (b : Buffers) (c : ContentId) (j : EntryNumber) (h : ℕ) → rowFacts b (c .0) .rights ≡ before
+      → rowFacts b (c .0) .trigger ≢ 1 → perform (MoveIn c j h) b .answer ≢ 12
+  pub moved-in : (b : Buffers) (c : ContentId) (j : EntryNumber) (h : ℕ) → rowFacts b (c .0) .rights ≡ before
+      → perform (MoveIn c j h) b .answer ≡ 0 → RightsInEntry (perform (MoveIn c j h) b .buffers) (j .0) (c .0) after
+
+-- E6: rights 15 to 15, 14 to 13, 1 to 0 on a move
+abbrev pub E6 : Type 0
+E6 = Moves 15 15 × Moves 14 13 × Moves 1 0
+
+-- the rule table passes but for its version
+pub record PassesButVersion (b : Buffers) : Type 0 where
+  pub table : tablePasses 0x4D31 32000 32 0x02 (b .rules) ≡ true
+  pub application : rulesApplication (b .rules) ≡ ledgerApplication (b .ledger)
+
+-- the checks of a call before that of the rule table pass
+pub record PassesUntil9 (k : Request) (b : Buffers) : Type 0 where
+  pub its-arguments : NoneHolds (arguments k)
+  pub ledger : ledgerPasses (b .ledger) ≡ true
+  pub titles : titlesPass (b .titles) ≡ true
+
+-- E7: rule version 12h passes; 10h: 9. So it is for each call that is lent the card, which is all but 1, register.
+pub record E7 : Type 0 where
+  pub version-12 : (k : Request) (b : Buffers) → callOf k ≢ 1 → PassesButVersion b → getD (b .rules) 3 0 ≡ 0x12 → perform k b .answer ≢ 9
+  pub version-10 : (k : Request) (b : Buffers) → callOf k ≢ 1 → PassesUntil9 k b → getD (b .rules) 3 0 ≡ 0x10 → perform k b .answer ≡ 9
+
+-- an entry whose halves are usable with these IDs is torn
+abbrev pub TornBy : ℕ → ℕ → Type 0
+TornBy id other = (t r : List ℕ) → usableOf t ≡ true → usableOf r ≡ true → idOf t ≡ id → idOf r ≡ other → kindOf t r ≡ Torn
+
+-- E8: flag 1 with ID 0 is not usable; usable IDs 4 and 5 in one entry: torn
+abbrev pub E8 : Type 0
+E8 = ((h : List ℕ) → flagOf h ≡ true → idOf h ≡ 0 → usableOf h ≡ false) × TornBy 4 5 × TornBy 5 4
+
+-- a check-in at permits `before` is not refused for them, and done it leaves the row `after`
+pub record ChecksIn (before after : ℕ) : Type 0 where
+  pub may-check-in : (b : Buffers) (j : EntryNumber) (f1 : ℕ) → rowFacts b (contentAt b (j .0)) .permits ≡ before
+      → perform (CheckIn j f1) b .answer ≢ 15
+  pub checked-in : (b : Buffers) (j : EntryNumber) (f1 : ℕ) → rowFacts b (contentAt b (j .0)) .permits ≡ before
+      → perform (CheckIn j f1) b .answer ≡ 0 → PermitsInRow (perform (CheckIn j f1) b .buffers) (contentAt b (j .0)) after
+
+-- the checks of a check-in before that of the permits pass
+pub record PassesUntil15 (b : Buffers) (j : EntryNumber) (f1 : ℕ) : Type 0 where
+  pub its-arguments : NoneHolds (arguments (CheckIn j f1))
+  pub heads : NoneHolds (allHeads b)
+  pub copy : kindAt b (j .0) ≡ Copy
+  pub here : isHere (stateAt b (contentAt b (j .0))) ≡ true
+
+-- E9: check-in at permits 13 gives 14; at 14 it is refused with 15; at 15 they stay 15
+pub record E9 : Type 0 where
+  pub at-13 : ChecksIn 13 14
+  pub at-14 : (b : Buffers) (j : EntryNumber) (f1 : ℕ) → PassesUntil15 b j f1 → rowFacts b (contentAt b (j .0)) .permits ≡ 14
+      → perform (CheckIn j f1) b .answer ≡ 15
+  pub at-15 : ChecksIn 15 15
+
+-- E10: kind 8: 3; no bytes: 1
+abbrev pub E10 : Type 0
+E10 = ((rest : List ℕ) → readRequest (8 ∷ rest) ≡ Refused 3) × (readRequest [] ≡ Refused 1)
+
+-- "They form one theorem of ten parts about the definitions."
+pub record TenExamples : Type 0 where
+  pub e1 : E1
+  pub e2 : E2
+  pub e3 : E3
+  pub e4 : E4
+  pub e5 : E5
+  pub e6 : E6
+  pub e7 : E7
+  pub e8 : E8
+  pub e9 : E9
+  pub e10 : E10
