@@ -2,6 +2,8 @@
 -- Assumes nothing.
 use Prim.Native.Nat.{ℕ, _+_, _-_, _≤_, _<_}
 use mathlib.Core.Path.{_≡_}
+use native.Mathlib.Omega.{arith}
+use native.Mathlib.Decide.{decLt}
 use borrow.Author.Tests.{lt-ltb, le-ltb}
 use Rattle.calls.specs.Count.{oneLess, oneMore}
 
@@ -25,3 +27,10 @@ module _ (n : ℕ) where
   pub more-unlimited : 15 ≤ n → oneMore n ≡ n
   unfolding oneMore
   more-unlimited large = simp (le-ltb n 15 large)
+
+  -- counts stay at most 15
+  pub less-most : n ≤ 15 → oneLess n ≤ 15
+  less-most at-most = elim (decLt n 15) [ yes small ↦ omega (arith, less-limited small) | no large ↦ omega (arith, less-unlimited (omega arith)) ]
+
+  pub more-most : n ≤ 15 → oneMore n ≤ 15
+  more-most at-most = elim (decLt n 15) [ yes small ↦ omega (arith, more-limited small) | no large ↦ omega (arith, more-unlimited (omega arith)) ]

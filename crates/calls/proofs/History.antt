@@ -1,3 +1,4 @@
 pub mod Totals
 pub mod Titles
 pub mod Step
+pub mod Calls

@@ -1,0 +1,113 @@
+-- What it says that a condition of a call does not hold.
+-- Assumes nothing.
+use Prim.Native.Nat.{ℕ, _+_, _*_, _≤_, _<_, _^_}
+use mathlib.Core.Path.{_≡_, refl, sym, ap, _∙_}
+use mathlib.Core.Logic.{_≢_}
+use mathlib.Core.List.{List}
+use mathlib.Core.Bool.{Bool, true, false, not, _&&_, _||_, true≢false}
+use native.Mathlib.Omega.{arith}
+use lib.ListN.{length}
+use lib.Dec.{eqb}
+use borrow.Author.Tests.{leb-true, ltb-true, eqb-true, eqb-false, not-false}
+use Rattle.formats.specs.Facts.{inRange}
+use Rattle.formats.specs.Head.{ledgerPasses, titlesPass, rulesPass}
+use Rattle.formats.specs.declared.facts.Facts.{Facts}
+use Rattle.formats.specs.declared.entry.EntryKind.{EntryKind}
+use Rattle.formats.specs.declared.entry.EntryKind.the-variants.{Free, Copy, Full, Torn}
+use Rattle.formats.specs.declared.row.RowState.{RowState}
+use Rattle.formats.specs.declared.row.RowState.the-variants.{Empty, Here, Away, Gone, NoState}
+use Rattle.formats.proofs.Tests.{split}
+use Rattle.formats.proofs.facts.Laws.{Ranges, ranges}
+use Rattle.formats.proofs.head.Laws.{LedgerHead, ledger-head, titles-length, rules-length}
+use Rattle.calls.specs.Buffers.{Buffers, hereFacts, isFree, isCopy, isFull, isEmpty, isHere, isAway}
+use Rattle.calls.specs.Conditions.{numbered, factsPass, mayNotMove}
+use Rattle.calls.proofs.History.Totals.{Within}
+
+-- 4 and 5: the number is 1 to 999
+pub is-numbered : (v : ℕ) → not (numbered v) ≡ false → Within 999 v
+is-numbered v e =
+    let (p, q) = split _ _ (not-false _ e) in
+    record { from = leb-true _ _ p; to = leb-true _ _ q }
+
+-- 6: the facts are in their ranges
+pub record Granted (f : Facts) : Type 0 where
+  pub passes : inRange f ≡ true
+  pub in-ranges : Ranges f
+  pub title-key : f .«title_key» < 2 ^ 56
+  pub sti-key : f .«sti_key» < 2 ^ 56
+
+pub are-facts : (f : Facts) → not (factsPass f) ≡ false → Granted f
+are-facts f e =
+    let (p, keys) = split (inRange f) _ (not-false _ e) in
+    let (t, s) = split _ _ keys in
+    record { passes = p; in-ranges = ranges p; title-key = ltb-true _ _ t; sti-key = ltb-true _ _ s }
+
+-- 7, 8 and 9: the heads are right
+pub is-ledger : (l : List ℕ) → not (ledgerPasses l) ≡ false → LedgerHead l
+is-ledger l e = ledger-head l (not-false _ e)
+
+pub is-titles : (t : List ℕ) → not (titlesPass t) ≡ false → length t ≡ 16000
+is-titles t e = titles-length t (not-false _ e)
+
+pub is-rules : (r : List ℕ) (same : Bool) → not (rulesPass r && same) ≡ false → length r ≡ 32000
+is-rules r same e = rules-length r (split (rulesPass r) same (not-false _ e) .0)
+
+-- 10: the entry is of the kind needed
+pub is-free : (k : EntryKind) → not (isFree k) ≡ false → k ≡ Free
+is-free Free e = refl
+is-free Copy e = absurd (true≢false e)
+is-free Full e = absurd (true≢false e)
+is-free Torn e = absurd (true≢false e)
+
+pub is-copy : (k : EntryKind) → not (isCopy k) ≡ false → k ≡ Copy
+is-copy Free e = absurd (true≢false e)
+is-copy Copy e = refl
+is-copy Full e = absurd (true≢false e)
+is-copy Torn e = absurd (true≢false e)
+
+pub is-full : (k : EntryKind) → not (isFull k) ≡ false → k ≡ Full
+is-full Free e = absurd (true≢false e)
+is-full Copy e = absurd (true≢false e)
+is-full Full e = refl
+is-full Torn e = absurd (true≢false e)
+
+-- 11: the row is in the state needed
+pub is-empty : (s : RowState) → not (isEmpty s) ≡ false → s ≡ Empty
+is-empty Empty e = refl
+is-empty (Here f) e = absurd (true≢false e)
+is-empty Away e = absurd (true≢false e)
+is-empty Gone e = absurd (true≢false e)
+is-empty NoState e = absurd (true≢false e)
+
+pub is-here : (s : RowState) → not (isHere s) ≡ false → s ≡ Here (hereFacts s)
+is-here Empty e = absurd (true≢false e)
+is-here (Here f) e = refl
+is-here Away e = absurd (true≢false e)
+is-here Gone e = absurd (true≢false e)
+is-here NoState e = absurd (true≢false e)
+
+pub is-away : (s : RowState) → not (isAway s) ≡ false → s ≡ Away
+is-away Empty e = absurd (true≢false e)
+is-away (Here f) e = absurd (true≢false e)
+is-away Away e = refl
+is-away Gone e = absurd (true≢false e)
+is-away NoState e = absurd (true≢false e)
+
+-- a row in one of these states is in a state
+abbrev InState : RowState → Bool
+InState Empty = true
+InState (Here f) = true
+InState Away = true
+InState Gone = true
+InState NoState = false
+
+pub a-state : {s : RowState} (t : RowState) → InState t ≡ true → s ≡ t → s ≢ NoState
+a-state t some e none = true≢false (sym some ∙ ap InState (sym e ∙ none))
+
+-- 12: neither trigger nor rights forbid a move
+pub may-move : (f : Facts) → mayNotMove f ≡ false → f .rights ≢ 0
+may-move f e = eqb-false _ _ (second (eqb (f .trigger) 1) (eqb (f .rights) 0) e)
+  where
+    second : (a b : Bool) → (a || b) ≡ false → b ≡ false
+    second true b e = absurd (true≢false e)
+    second false b e = e
