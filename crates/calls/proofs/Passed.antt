@@ -3,15 +3,16 @@
 use Prim.Native.Nat.{ℕ, _+_, _*_, _≤_, _<_, _^_}
 use mathlib.Core.Path.{_≡_, refl, sym, ap, _∙_}
 use mathlib.Core.Logic.{_≢_}
-use mathlib.Core.List.{List}
+use mathlib.Core.List.{List, _++_}
 use mathlib.Core.Bool.{Bool, true, false, not, _&&_, _||_, true≢false}
 use native.Mathlib.Omega.{arith}
 use lib.ListN.{length}
 use lib.Dec.{eqb}
 use borrow.Author.Tests.{leb-true, ltb-true, eqb-true, eqb-false, not-false}
 use Rattle.formats.specs.Facts.{inRange}
-use Rattle.formats.specs.Head.{ledgerPasses, titlesPass, rulesPass}
+use Rattle.formats.specs.Head.{ledgerPasses, ledgerApplication, titlesPass, rulesPass, rulesApplication}
 use Rattle.formats.specs.declared.facts.Facts.{Facts}
+use Rattle.formats.specs.declared.request.Request.{Request}
 use Rattle.formats.specs.declared.entry.EntryKind.{EntryKind}
 use Rattle.formats.specs.declared.entry.EntryKind.the-variants.{Free, Copy, Full, Torn}
 use Rattle.formats.specs.declared.row.RowState.{RowState}
@@ -19,8 +20,11 @@ use Rattle.formats.specs.declared.row.RowState.the-variants.{Empty, Here, Away,
 use Rattle.formats.proofs.Tests.{split}
 use Rattle.formats.proofs.facts.Laws.{Ranges, ranges}
 use Rattle.formats.proofs.head.Laws.{LedgerHead, ledger-head, titles-length, rules-length}
-use Rattle.calls.specs.Buffers.{Buffers, hereFacts, isFree, isCopy, isFull, isEmpty, isHere, isAway}
-use Rattle.calls.specs.Conditions.{numbered, factsPass, mayNotMove}
+use Rattle.calls.specs.Buffers.{Buffers, stateAt, hereFacts, kindAt, contentAt, isFree, isCopy, isFull, isEmpty, isHere, isAway}
+use Rattle.calls.specs.Refusal.{NoneHolds}
+use Rattle.calls.specs.Conditions.{numbered, factsPass, mayNotMove, arguments, heads, state, conditions}
+use Rattle.calls.specs.Perform.{perform}
+use Rattle.calls.proofs.Refusals.{none-holds}
 use Rattle.calls.proofs.History.Totals.{Within}
 
 -- 4 and 5: the number is 1 to 999
@@ -111,3 +115,39 @@ may-move f e = eqb-false _ _ (second (eqb (f .trigger) 1) (eqb (f .rights) 0) e)
     second : (a b : Bool) → (a || b) ≡ false → b ≡ false
     second true b e = absurd (true≢false e)
     second false b e = e
+
+-- none of a call's conditions holds
+abbrev pub Passed : Request → Buffers → Type 0
+Passed k b = NoneHolds (arguments k ++ (heads k b ++ state k b))
+
+-- a call that is done has passed all of them
+pub passed : (k : Request) (b : Buffers) → perform k b .answer ≡ 0 → Passed k b
+unfolding conditions
+passed k b done = none-holds k b done
+
+-- a call on entry j has found the heads of all three buffers right
+pub record OnCard (b : Buffers) (j : ℕ) : Type 0 where
+  pub entry : Within 999 j
+  pub head : LedgerHead (b .ledger)
+  pub titles-long : length (b .titles) ≡ 16000
+  pub rules-long : length (b .rules) ≡ 32000
+
+pub on-card : (b : Buffers) (j : ℕ) → not (numbered j) ≡ false → not (ledgerPasses (b .ledger)) ≡ false → not (titlesPass (b .titles)) ≡ false
+    → not (rulesPass (b .rules) && eqb (rulesApplication (b .rules)) (ledgerApplication (b .ledger))) ≡ false → OnCard b j
+on-card b j n l t r =
+    record { entry = is-numbered j n; head = is-ledger (b .ledger) l; titles-long = is-titles (b .titles) t; rules-long = is-rules (b .rules) _ r }
+
+-- a delete is of a copy, or of a full entry whose row is away
+pub data Deletes (b : Buffers) (j : ℕ) : Type 0 where
+  a-copy : kindAt b j ≡ Copy → Deletes b j
+  a-holder : kindAt b j ≡ Full → stateAt b (contentAt b j) ≡ Away → Deletes b j
+
+pub deletes : (b : Buffers) (j : ℕ) → not (isCopy (kindAt b j) || isFull (kindAt b j)) ≡ false
+    → (isFull (kindAt b j) && not (isAway (stateAt b (contentAt b j)))) ≡ false → Deletes b j
+deletes b j kinds away = by (kindAt b j) refl
+  where
+    by : (k : EntryKind) → kindAt b j ≡ k → Deletes b j
+    by Free k = absurd (true≢false (rw k at kinds))
+    by Copy k = a-copy k
+    by Full k = a-holder k (is-away _ (rw k at away))
+    by Torn k = absurd (true≢false (rw k at kinds))

@@ -41,7 +41,7 @@ use Rattle.formats.specs.Head.{ledgerPasses, ledgerApplication, titlesPass, rul
 use Rattle.calls.specs.Effect.{moved as afterMove, effect}
 use Rattle.calls.specs.Perform.{AreBytes}
 use Rattle.calls.specs.History.{Answered, Log, Placed, aCopy, theHolder, puts, lastAt, Deed, granted, checkedOut, checkedIn, moved, copyDeleted, holderDeleted, Event, event}
-use Rattle.calls.proofs.Passed.{is-numbered, Granted, are-facts, is-ledger, is-titles, is-rules, is-free, is-copy, is-full, is-empty, is-here, is-away, a-state, may-move}
+use Rattle.calls.proofs.Passed.{is-numbered, Granted, are-facts, is-ledger, is-titles, is-rules, is-free, is-copy, is-full, is-empty, is-here, is-away, a-state, may-move, Passed, OnCard, on-card, Deletes, a-copy, a-holder, deletes}
 use Rattle.calls.proofs.Views.{IsRow, in-a-state, state-of-row, row-length, row-written, row-else, placeBy, placeOf, view, entry-length, copy-place, full-place, wiped-copy-place, wiped-full-place, place-title, place-title-else, place-both, place-both-else}
 use Rattle.calls.proofs.Counts.{less-most, more-most}
 use Rattle.calls.proofs.History.Totals.{Within, total-same}
@@ -58,16 +58,6 @@ copy-counts c Torn id f = refl
 pub copies-seen : (c : ℕ) (b : Buffers) → copies c (b .titles) (b .rules) ≡ copiesIn 999 c (view b)
 unfolding copies
 copies-seen c b = total-same 999 _ _ (λ j l. sym (copy-counts c (kindAt b j) (contentAt b j) (factsAt b j)))
-
--- a call that is done on entry j found these heads right
-record OnCard (b : Buffers) (j : ℕ) : Type 0 where
-  entry : Within 999 j
-  head : LedgerHead (b .ledger)
-  titles-long : length (b .titles) ≡ 16000
-  rules-long : length (b .rules) ≡ 32000
-
-abbrev Passed : Request → Buffers → Type 0
-Passed k b = NoneHolds (arguments k ++ (heads k b ++ state k b))
 
 module _ (log : Log) (b : Buffers) (inv : Inv 999 log (view b)) (are-bytes : AreBytes b) where
   -- a call that writes row c and entry j
@@ -90,10 +80,6 @@ module _ (log : Log) (b : Buffers) (inv : Inv 999 log (view b)) (are-bytes : Are
         agree-here = λ m. rw place here;
         agree-else = else;
       }
-
-  on-card : (j : ℕ) → not (numbered j) ≡ false → not (ledgerPasses (b .ledger)) ≡ false → not (titlesPass (b .titles)) ≡ false
-      → not (rulesPass (b .rules) && eqb (rulesApplication (b .rules)) (ledgerApplication (b .ledger))) ≡ false → OnCard b j
-  on-card j n l t r = record { entry = is-numbered j n; head = is-ledger (b .ledger) l; titles-long = is-titles (b .titles) t; rules-long = is-rules (b .rules) _ r }
 
   c-register : (c : ContentId) (f : Facts) → Passed (Register c f) b → Change 999 (Register c f) log (view b) (view (effect (Register c f) b))
   unfolding effect
@@ -144,7 +130,7 @@ module _ (log : Log) (b : Buffers) (inv : Inv 999 log (view b)) (are-bytes : Are
       → Change 999 (Record c j f h) log (view b) (view (effect (Record c j f h) b))
   unfolding effect
   c-record c j f h t =
-      let o = on-card (j .0) (search) (search) (search) (search) in
+      let o = on-card b (j .0) (search) (search) (search) (search) in
       let g = are-facts f (search) in
       let named = is-numbered (c .0) (search) in
       let k = is-free (kindAt b (j .0)) (search) in
@@ -173,7 +159,7 @@ module _ (log : Log) (b : Buffers) (inv : Inv 999 log (view b)) (are-bytes : Are
   c-check-out : (c : ContentId) (j : EntryNumber) → Passed (CheckOut c j) b → Change 999 (CheckOut c j) log (view b) (view (effect (CheckOut c j) b))
   unfolding effect
   c-check-out c j t =
-      let o = on-card (j .0) (search) (search) (search) (search) in
+      let o = on-card b (j .0) (search) (search) (search) (search) in
       let named = is-numbered (c .0) (search) in
       let k = is-free (kindAt b (j .0)) (search) in
       let e = is-here (stateAt b (c .0)) (search) in
@@ -193,7 +179,7 @@ module _ (log : Log) (b : Buffers) (inv : Inv 999 log (view b)) (are-bytes : Are
   c-check-in : (j : EntryNumber) (f1 : ℕ) → Passed (CheckIn j f1) b → Change 999 (CheckIn j f1) log (view b) (view (effect (CheckIn j f1) b))
   unfolding effect
   c-check-in j f1 t =
-      let o = on-card (j .0) (search) (search) (search) (search) in
+      let o = on-card b (j .0) (search) (search) (search) (search) in
       let c = contentAt b (j .0) in
       let k = is-copy (kindAt b (j .0)) (search) in
       let e = is-here (stateAt b c) (search) in
@@ -217,7 +203,7 @@ module _ (log : Log) (b : Buffers) (inv : Inv 999 log (view b)) (are-bytes : Are
   c-move-out : (j : EntryNumber) (h : ℕ) (f : Fillers) → Passed (MoveOut j h f) b → Change 999 (MoveOut j h f) log (view b) (view (effect (MoveOut j h f) b))
   unfolding effect
   c-move-out j h f t =
-      let o = on-card (j .0) (search) (search) (search) (search) in
+      let o = on-card b (j .0) (search) (search) (search) (search) in
       let c = contentAt b (j .0) in
       let g = factsAt b (j .0) in
       let k = is-full (kindAt b (j .0)) (search) in
@@ -242,7 +228,7 @@ module _ (log : Log) (b : Buffers) (inv : Inv 999 log (view b)) (are-bytes : Are
   c-move-in : (c : ContentId) (j : EntryNumber) (h : ℕ) → Passed (MoveIn c j h) b → Change 999 (MoveIn c j h) log (view b) (view (effect (MoveIn c j h) b))
   unfolding effect
   c-move-in c j h t =
-      let o = on-card (j .0) (search) (search) (search) (search) in
+      let o = on-card b (j .0) (search) (search) (search) (search) in
       let named = is-numbered (c .0) (search) in
       let k = is-free (kindAt b (j .0)) (search) in
       let e = is-here (stateAt b (c .0)) (search) in
@@ -296,18 +282,8 @@ module _ (log : Log) (b : Buffers) (inv : Inv 999 log (view b)) (are-bytes : Are
 
   c-delete : (j : EntryNumber) (f : Fillers) → Passed (Delete j f) b → Change 999 (Delete j f) log (view b) (view (effect (Delete j f) b))
   c-delete j f t =
-      let o = on-card (j .0) (search) (search) (search) (search) in
-      let kinds : not (isCopy (kindAt b (j .0)) || isFull (kindAt b (j .0))) ≡ false = search in
-      let away : (isFull (kindAt b (j .0)) && not (isAway (stateAt b (contentAt b (j .0))))) ≡ false = search in
-      by (kindAt b (j .0)) refl o kinds away
-    where
-      by : (k : EntryKind) → kindAt b (j .0) ≡ k → OnCard b (j .0) → not (isCopy (kindAt b (j .0)) || isFull (kindAt b (j .0))) ≡ false
-          → (isFull (kindAt b (j .0)) && not (isAway (stateAt b (contentAt b (j .0))))) ≡ false
-          → Change 999 (Delete j f) log (view b) (view (effect (Delete j f) b))
-      by Free k o kinds away = absurd (true≢false (rw k at kinds))
-      by Copy k o kinds away = c-delete-copy j f o k
-      by Full k o kinds away = c-delete-holder j f o k (is-away _ (rw k at away))
-      by Torn k o kinds away = absurd (true≢false (rw k at kinds))
+      let o = on-card b (j .0) (search) (search) (search) (search) in
+      elim (deletes b (j .0) (search) (search)) [ a-copy k ↦ c-delete-copy j f o k | a-holder k e ↦ c-delete-holder j f o k e ]
 
   -- EACH DONE CALL IS A CHANGE
   pub change : (k : Request) → Passed k b → Change 999 k log (view b) (view (effect k b))
