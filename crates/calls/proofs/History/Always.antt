@@ -1,0 +1,197 @@
+-- The history theorem: by induction over the list, and then read off the invariant.
+-- Assumes nothing.
+use Prim.Native.Nat.{ℕ, _+_, _≤_}
+use mathlib.Core.Path.{_≡_, refl, ap, sym, subst, _∙_}
+use mathlib.Core.Logic.{_≢_}
+use mathlib.Core.List.{List, [], _∷_}
+use mathlib.Core.Option.{none, some}
+use mathlib.Core.Bool.{Bool, true, false, cond, _&&_}
+use native.Mathlib.Omega.{arith}
+use native.Mathlib.Decide.{ℕ-discrete}
+use lib.Dec.{leb, eqb}
+use lib.ListN.{replicate}
+use borrow.Author.Tests.{leb-true, ne-eqb}
+use Rattle.formats.specs.Half.{idOf}
+use Rattle.formats.specs.Entry.{entryFacts}
+use Rattle.formats.specs.Head.{rowsOf}
+use Rattle.formats.specs.Row.{stateOf}
+use Rattle.formats.specs.declared.facts.Facts.{Facts}
+use Rattle.formats.specs.declared.request.Request.{Request}
+use Rattle.formats.specs.declared.entry.EntryKind.{EntryKind}
+use Rattle.formats.specs.declared.entry.EntryKind.the-variants.{Free, Copy, Full, Torn}
+use Rattle.formats.specs.declared.row.RowState.{RowState}
+use Rattle.formats.specs.declared.row.RowState.the-variants.{Empty, Here, Away, Gone, NoState}
+use Rattle.formats.proofs.Tests.{split}
+use Rattle.formats.proofs.entry.Laws.{kind-zeros}
+use Rattle.formats.proofs.row.Laws.{state-zeros}
+use Rattle.formats.proofs.head.Laws.{fresh-rows, fresh-row, fresh-title, fresh-rule, fresh-ledger-bytes, fresh-titles-bytes, fresh-rules-bytes}
+use Rattle.calls.specs.Buffers.{Buffers, rowAt, titleAt, ruleAt, stateIn, stateAt, kindAt, contentAt, factsAt, isHere, isFull, one, total, copies, fresh}
+use Rattle.calls.specs.Effect.{effect}
+use Rattle.calls.specs.Perform.{perform, AreBytes}
+use Rattle.calls.specs.History.{Answered, Log, done, lastAt, Deed, granted, holderDeleted, deeds, times, grant, Run, next, start, run, fullOf, holders, Holder, in-row, in-entry, Kept, Lost, Story, After, History}
+use Rattle.calls.proofs.Refusals.{unchanged, carried-out}
+use Rattle.calls.proofs.Passed.{passed}
+use Rattle.calls.proofs.Bounds.{in-bounds}
+use Rattle.calls.proofs.Views.{placeBy, placeOf, view}
+use Rattle.calls.proofs.History.Totals.{Within, total-same, total-none}
+use Rattle.calls.proofs.History.Titles.{Place, vacant, copy, full, copyIn, fullIn, Standing, Book, Unborn, InRow, AtPlace, Ended}
+use Rattle.calls.proofs.History.Step.{State, doneNow, Agree, At, Inv, kept, copiesIn, fullsIn, holder-found}
+use Rattle.calls.proofs.History.Calls.{copies-seen, change}
+
+-- THE START
+
+module _ (rows application cardApplication : ℕ) (low : 1 ≤ rows) (high : rows ≤ 999) where
+  abbrev b₀ : Buffers
+  b₀ = fresh rows application cardApplication
+
+  -- every row is empty, or none
+  data Blank : RowState → Type 0 where
+    empty : Blank Empty
+    no-row : Blank NoState
+
+  blank : (c : ℕ) → Blank (stateAt b₀ c)
+  unfolding stateIn
+  blank c = by (leb 1 c && leb c (rowsOf (b₀ .ledger))) refl
+    where
+      by : (x : Bool) → (leb 1 c && leb c (rowsOf (b₀ .ledger))) ≡ x → Blank (cond x (stateOf (rowAt (b₀ .ledger) c)) NoState)
+      by true e =
+          let (p, q) = split _ _ e in
+          let r : rowsOf (b₀ .ledger) ≡ rows = fresh-rows rows application (omega arith) in
+          let inside = leb-true c (rowsOf (b₀ .ledger)) q in
+          rw (fresh-row rows application c (leb-true 1 c p) (omega arith), state-zeros) empty
+      by false e = no-row
+
+  -- every place has nothing
+  nothing-there : (j : ℕ) → Within 999 j → view b₀ .places j ≡ vacant
+  nothing-there j l =
+      ap (λ (t : List ℕ). placeOf t (ruleAt (b₀ .rules) j)) (fresh-title j (l .from) (l .to))
+      ∙ ap (placeOf (replicate 16 0)) (fresh-rule cardApplication j (l .from) (l .to))
+      ∙ ap (λ (k : EntryKind). placeBy k (idOf (replicate 16 0)) (entryFacts (replicate 16 0) (replicate 32 0))) kind-zeros
+
+  unborn : (c : ℕ) → Unborn (deeds c []) (copiesIn 999 c (view b₀)) (fullsIn 999 c (view b₀))
+  unfolding deeds times grant
+  unborn c =
+      record {
+        no-deed = λ d. refl;
+        no-grant = refl;
+        no-copy = total-none 999 _ (λ j l. ap (copyIn c) (nothing-there j l));
+        no-full = total-none 999 _ (λ j l. ap (fullIn c) (nothing-there j l));
+      }
+
+  standing : (c : ℕ) {r : RowState} → Blank r → Standing (deeds c []) (copiesIn 999 c (view b₀)) (fullsIn 999 c (view b₀)) (At 999 c (view b₀)) r
+  standing c empty = unborn c
+  standing c no-row = unborn c
+
+  begins : Inv 999 [] (view b₀)
+  begins = record { titles = λ c. standing c (blank c); agree = λ p l. rw (nothing-there p l) tt }
+
+  fresh-bytes : AreBytes b₀
+  fresh-bytes = record { ledger = fresh-ledger-bytes rows application; titles = fresh-titles-bytes; rules = fresh-rules-bytes cardApplication }
+
+-- THE LIST
+
+-- a refused call leaves a title's deeds and what was put at an entry as they were
+refused-deeds : (c : ℕ) (a : Answered) (log : Log) → a .answer ≢ 0 → deeds c (a ∷ log) ≡ deeds c log
+unfolding deeds
+refused-deeds c a log refused = simp (ne-eqb (a .answer) 0 refused)
+
+refused-last : (j : ℕ) (a : Answered) (log : Log) → a .answer ≢ 0 → lastAt j (a ∷ log) ≡ lastAt j log
+unfolding lastAt
+refused-last j a log refused = simp (ne-eqb (a .answer) 0 refused)
+
+-- what holds after each call
+pub record Sound (w : Run) : Type 0 where
+  pub inv : Inv 999 (w .log) (view (w .buffers))
+  pub bytes : AreBytes (w .buffers)
+
+goes-on : (k : Request) (w : Run) → Sound w → Sound (next k w)
+goes-on k w s =
+    let b = w .buffers in
+    record { inv = by (ℕ-discrete (perform k b .answer) 0); bytes = in-bounds k b .stay-bytes (s .bytes) }
+  where
+    by : Dec (perform k (w .buffers) .answer ≡ 0) → Inv 999 (next k w .log) (view (perform k (w .buffers) .buffers))
+    by (yes zero) =
+        let b = w .buffers in
+        rw (zero, carried-out k b zero)
+        (kept 999 k (w .log) (view b) (view (effect k b)) (change (w .log) b (s .inv) (s .bytes) k (passed k b zero)) (s .inv))
+    by (no refused) =
+        let a : Answered = record { call = k; answer = perform k (w .buffers) .answer } in
+        rw (unchanged k (w .buffers) refused)
+        record {
+          titles = λ c. rw (refused-deeds c a (w .log) refused) (s .inv .titles c);
+          agree = λ p l. rw (refused-last p a (w .log) refused) (s .inv .agree p l);
+        }
+
+always : (ks : List Request) (w : Run) → Sound w → Sound (run ks w)
+unfolding run
+always [] w s = s
+always (k ∷ ks) w s = always ks (next k w) (goes-on k w s)
+
+-- WHAT IT SAYS OF A TITLE
+
+-- the holders that the bytes show are those at the places
+full-counts : (c : ℕ) (k : EntryKind) (id : ℕ) (f : Facts) → fullIn c (placeBy k id f) ≡ one (isFull k && eqb id c)
+full-counts c Free id f = refl
+full-counts c Copy id f = refl
+full-counts c Full id f = refl
+full-counts c Torn id f = refl
+
+fulls-seen : (c : ℕ) (b : Buffers) → total 999 (λ j. one (fullOf c b j)) ≡ fullsIn 999 c (view b)
+fulls-seen c b = total-same 999 _ _ (λ j l. sym (full-counts c (kindAt b j) (contentAt b j) (factsAt b j)))
+
+-- a place that has c in full is a full entry with its ID
+full-entry : (k : EntryKind) (id : ℕ) (f : Facts) (c : ℕ) (h : Facts) → placeBy k id f ≡ full c h → (k ≡ Full) × (id ≡ c) × (f ≡ h)
+full-entry Free id f c h e = (cc, cc, cc)
+full-entry Copy id f c h e = (cc, cc, cc)
+full-entry Full id f c h e = (refl, cc, cc)
+full-entry Torn id f c h e = (cc, cc, cc)
+
+module _ (c : ℕ) (f : Facts) (ds : List Deed) (b : Buffers) where
+  from-book : (h : Facts) → Book ds h (copiesIn 999 c (view b)) → holders c b ≡ 1 → Holder c b h → grant ds ≡ some f → Story c f ds b
+  from-book h book one-holder at e =
+      let i : book .given ≡ f = cc in
+      let n = copies-seen c b in
+      record {
+        granted-once = book .once f;
+        kept = λ z.
+            record {
+              one-holder = one-holder;
+              facts = h;
+              holder = at;
+              title-key = rw i at (book .title-key);
+              sti-key = rw i at (book .sti-key);
+              check-outs = rw n (book .out);
+              permits = rw (n, sym i) (book .permits);
+              rights = rw i at (book .rights);
+            };
+        lost = λ d. absurd (d (book .not-deleted));
+      }
+
+  holder-count : (r : RowState) (m : ℕ) → stateAt b c ≡ r → fullsIn 999 c (view b) ≡ m → holders c b ≡ one (isHere r) + m
+  unfolding holders
+  holder-count r m row fulls = rw (row, fulls-seen c b, fulls)
+
+  story : (r : RowState) → stateAt b c ≡ r → Standing ds (copiesIn 999 c (view b)) (fullsIn 999 c (view b)) (At 999 c (view b)) r → grant ds ≡ some f → Story c f ds b
+  story Empty row st e = let z : _≡_ {A = ℕ} 0 1 = cc in absurd (omega arith)
+  story (Here h) row st e = from-book h (st .book) (holder-count (Here h) 0 row (st .no-full)) (in-row row) e
+  story Away row st e =
+      let y = holder-found 999 c (view b) (omega (arith, st .one-full)) in
+      let j = y .1 .0 in
+      let l = y .1 .1 in
+      let u = full-entry (kindAt b j) (contentAt b j) (factsAt b j) c (y .0) (y .1 .2) in
+      from-book (y .0) (rw (st .no-copy) (st .book (y .0) (y .1))) (holder-count Away 1 row (st .one-full)) (in-entry j (l .from) (l .to) (u .0) (u .1) (u .2)) e
+  story Gone row st e =
+      record {
+        granted-once = st .once f;
+        kept = λ z. absurd (st .deleted z);
+        lost = λ d. record { no-holder = holder-count Gone 0 row (st .no-full); no-copy = copies-seen c b ∙ st .no-copy };
+      }
+  story NoState row st e = let z : _≡_ {A = ℕ} 0 1 = cc in absurd (omega arith)
+
+-- DEMAND 3
+pub history : History
+history rows application cardApplication low high ks c f e =
+    let w = run ks (start rows application cardApplication) in
+    let s = always ks (start rows application cardApplication)
+        (record { inv = begins rows application cardApplication low high; bytes = fresh-bytes rows application cardApplication low high }) in
+    story c f (deeds c (w .log)) (w .buffers) (stateAt (w .buffers) c) refl (s .inv .titles c) e
