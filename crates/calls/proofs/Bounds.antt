@@ -2,7 +2,6 @@
 -- Assumes nothing.
 use Prim.Native.Nat.{ℕ, _*_, _<_}
 use mathlib.Core.Path.{_≡_, refl, sym, ap, subst, _∙_}
-use mathlib.Core.Logic.{_≢_}
 use mathlib.Core.List.{List}
 use native.Mathlib.Omega.{arith}
 use native.Mathlib.Decide.{ℕ-discrete}
@@ -12,8 +11,6 @@ use Rattle.formats.specs.Half.{wiped}
 use Rattle.formats.specs.Title.{titleHalf}
 use Rattle.formats.specs.Rule.{ruleHalf, wipedRule}
 use Rattle.formats.specs.Row.{hereRow, plainRow, withPermits}
-use Rattle.formats.specs.declared.facts.ContentId.{ContentId}
-use Rattle.formats.specs.declared.facts.EntryNumber.{EntryNumber}
 use Rattle.formats.specs.declared.facts.Facts.{Facts}
 use Rattle.formats.specs.declared.facts.Fillers.{Fillers}
 use Rattle.formats.specs.declared.request.Request.{Request}
@@ -26,11 +23,11 @@ use Rattle.formats.proofs.title.Laws.{length-titleHalf, title-bytes}
 use Rattle.formats.proofs.rule.Laws.{length-ruleHalf, rule-bytes, wipedRule-length, wipedRule-bytes}
 use Rattle.formats.proofs.row.Laws.{here-length, here-bytes, plain-length, plain-bytes, permits-length, permits-bytes}
 use Rattle.calls.specs.Count.{oneLess, oneMore}
-use Rattle.calls.specs.Buffers.{Buffers, rowAt, titleAt, ruleAt, stateAt, rowFacts, kindAt, contentAt, factsAt, isFull, withRow, withTitle, withRule}
+use Rattle.calls.specs.Buffers.{Buffers, rowAt, titleAt, ruleAt, stateAt, rowFacts, contentAt, factsAt, isFull, withRow, withTitle, withRule}
 use Rattle.calls.specs.Effect.{moved, setPermits, fill, wipeTitle, wipeEntry, effect}
 use Rattle.calls.specs.Perform.{perform, Bytes, AreBytes, InBounds}
 use Rattle.calls.proofs.Refusals.{unchanged, carried-out}
-use Rattle.calls.proofs.Passed.{is-ledger, is-empty, is-here, is-away, a-state, Passed, passed, OnCard, on-card, a-copy, a-holder, deletes}
+use Rattle.calls.proofs.Passed.{is-ledger, is-empty, is-here, is-away, a-state, Passed, passed, on-card, a-copy, a-holder, deletes}
 use Rattle.calls.proofs.Views.{IsRow, in-a-state, row-inside, row-length, entry-inside, entry-length}
 use Rattle.calls.proofs.History.Totals.{Within}
 

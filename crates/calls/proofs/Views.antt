@@ -20,8 +20,7 @@ use Rattle.formats.specs.declared.facts.Facts.{Facts}
 use Rattle.formats.specs.declared.facts.Fillers.{Fillers}
 use Rattle.formats.specs.declared.entry.EntryKind.{EntryKind}
 use Rattle.formats.specs.declared.entry.EntryKind.the-variants.{Free, Copy, Full, Torn}
-use Rattle.formats.specs.declared.row.RowState.{RowState}
-use Rattle.formats.specs.declared.row.RowState.the-variants.{Empty, Here, Away, Gone, NoState}
+use Rattle.formats.specs.declared.row.RowState.the-variants.{NoState}
 use Rattle.formats.proofs.Part.{part-length}
 use Rattle.formats.proofs.Tests.{split, both}
 use Rattle.formats.proofs.facts.Laws.{Ranges}
@@ -29,7 +28,7 @@ use Rattle.formats.proofs.half.Laws.{written-id}
 use Rattle.formats.proofs.title.Laws.{title-written}
 use Rattle.formats.proofs.entry.Laws.{kind-copy, kind-full, entry-facts-back, copy-wiped, both-wiped}
 use Rattle.formats.proofs.head.Laws.{LedgerHead, rows-kept}
-use Rattle.calls.specs.Buffers.{Buffers, rowAt, titleAt, ruleAt, stateIn, stateAt, kindAt, contentAt, factsAt}
+use Rattle.calls.specs.Buffers.{Buffers, rowAt, titleAt, ruleAt, stateIn, stateAt}
 use Rattle.calls.proofs.Slots.{slot-ends, slot-same, slot-else}
 use Rattle.calls.proofs.History.Totals.{Within}
 use Rattle.calls.proofs.History.Titles.{Place, vacant, copy, full}

@@ -1,6 +1,5 @@
 -- What each call changes when it is done.
 use Prim.Native.Nat.{ℕ}
-use mathlib.Core.List.{List}
 use mathlib.Core.Bool.{cond}
 use Rattle.formats.specs.Half.{wiped}
 use Rattle.formats.specs.Title.{titleHalf}

@@ -12,7 +12,7 @@ use Rattle.formats.specs.declared.request.Request.{Request}
 use Rattle.formats.specs.declared.request.Request.the-variants.{Register, Record, CheckOut, CheckIn, MoveOut, MoveIn, Delete}
 use Rattle.formats.specs.declared.row.RowState.the-variants.{Here}
 use Rattle.formats.specs.declared.entry.EntryKind.the-variants.{Full}
-use Rattle.calls.specs.Buffers.{Buffers, titleAt, ruleAt, stateAt, kindAt, contentAt, factsAt, isFull, isHere, one, total, copies, fresh}
+use Rattle.calls.specs.Buffers.{Buffers, stateAt, kindAt, contentAt, factsAt, isFull, isHere, one, total, copies, fresh}
 use Rattle.calls.specs.Perform.{perform}
 
 -- THE LIST

@@ -1,10 +1,10 @@
 -- The history theorem: by induction over the list, and then read off the invariant.
 -- Assumes nothing.
 use Prim.Native.Nat.{ℕ, _+_, _≤_}
-use mathlib.Core.Path.{_≡_, refl, ap, sym, subst, _∙_}
+use mathlib.Core.Path.{_≡_, refl, ap, sym, _∙_}
 use mathlib.Core.Logic.{_≢_}
 use mathlib.Core.List.{List, [], _∷_}
-use mathlib.Core.Option.{none, some}
+use mathlib.Core.Option.{some}
 use mathlib.Core.Bool.{Bool, true, false, cond, _&&_}
 use native.Mathlib.Omega.{arith}
 use native.Mathlib.Decide.{ℕ-discrete}
@@ -25,17 +25,17 @@ use Rattle.formats.proofs.Tests.{split}
 use Rattle.formats.proofs.entry.Laws.{kind-zeros}
 use Rattle.formats.proofs.row.Laws.{state-zeros}
 use Rattle.formats.proofs.head.Laws.{fresh-rows, fresh-row, fresh-title, fresh-rule, fresh-ledger-bytes, fresh-titles-bytes, fresh-rules-bytes}
-use Rattle.calls.specs.Buffers.{Buffers, rowAt, titleAt, ruleAt, stateIn, stateAt, kindAt, contentAt, factsAt, isHere, isFull, one, total, copies, fresh}
+use Rattle.calls.specs.Buffers.{Buffers, rowAt, ruleAt, stateIn, stateAt, kindAt, contentAt, factsAt, isHere, isFull, one, total, fresh}
 use Rattle.calls.specs.Effect.{effect}
 use Rattle.calls.specs.Perform.{perform, AreBytes}
-use Rattle.calls.specs.History.{Answered, Log, done, lastAt, Deed, granted, holderDeleted, deeds, times, grant, Run, next, start, run, fullOf, holders, Holder, in-row, in-entry, Kept, Lost, Story, After, History}
+use Rattle.calls.specs.History.{Answered, Log, lastAt, Deed, deeds, times, grant, Run, next, start, run, fullOf, holders, Holder, in-row, in-entry, Story, History}
 use Rattle.calls.proofs.Refusals.{unchanged, carried-out}
 use Rattle.calls.proofs.Passed.{passed}
 use Rattle.calls.proofs.Bounds.{in-bounds}
 use Rattle.calls.proofs.Views.{placeBy, placeOf, view}
 use Rattle.calls.proofs.History.Totals.{Within, total-same, total-none}
-use Rattle.calls.proofs.History.Titles.{Place, vacant, copy, full, copyIn, fullIn, Standing, Book, Unborn, InRow, AtPlace, Ended}
-use Rattle.calls.proofs.History.Step.{State, doneNow, Agree, At, Inv, kept, copiesIn, fullsIn, holder-found}
+use Rattle.calls.proofs.History.Titles.{vacant, full, copyIn, fullIn, Standing, Book, Unborn}
+use Rattle.calls.proofs.History.Step.{At, Inv, kept, copiesIn, fullsIn, holder-found}
 use Rattle.calls.proofs.History.Calls.{copies-seen, change}
 
 -- THE START
@@ -193,5 +193,5 @@ pub history : History
 history rows application cardApplication low high ks c f e =
     let w = run ks (start rows application cardApplication) in
     let s = always ks (start rows application cardApplication)
-        (record { inv = begins rows application cardApplication low high; bytes = fresh-bytes rows application cardApplication low high }) in
+    (record { inv = begins rows application cardApplication low high; bytes = fresh-bytes rows application cardApplication low high }) in
     story c f (deeds c (w .log)) (w .buffers) (stateAt (w .buffers) c) refl (s .inv .titles c) e

@@ -3,16 +3,10 @@
 use Prim.Native.Nat.{ℕ, _*_, _≤_, _<_, _^_}
 use mathlib.Core.Path.{_≡_, refl, sym, ap, subst, _∙_}
 use mathlib.Core.Logic.{_≢_, inl, inr}
-use mathlib.Core.List.{List, _++_}
-use mathlib.Core.Bool.{Bool, true, false, not, cond, _&&_, _||_, true≢false}
+use mathlib.Core.Bool.{true, _&&_}
 use native.Mathlib.Omega.{arith}
-use lib.ListN.{length}
 use lib.Dec.{eqb}
 use borrow.Author.Tests.{ne-eqb, eqb-true, eqb-false, not-false}
-use Rattle.formats.specs.Half.{idOf, wiped}
-use Rattle.formats.specs.Title.{titleHalf}
-use Rattle.formats.specs.Rule.{ruleHalf, wipedRule}
-use Rattle.formats.specs.Entry.{kindOf, entryFacts}
 use Rattle.formats.specs.Row.{stateOf, hereRow, plainRow, withPermits}
 use Rattle.formats.specs.declared.facts.ContentId.{ContentId}
 use Rattle.formats.specs.declared.facts.EntryNumber.{EntryNumber}
@@ -23,30 +17,27 @@ use Rattle.formats.specs.declared.request.Request.the-variants.{Register, Recor
 use Rattle.formats.specs.declared.entry.EntryKind.{EntryKind}
 use Rattle.formats.specs.declared.entry.EntryKind.the-variants.{Free, Copy, Full, Torn}
 use Rattle.formats.specs.declared.row.RowState.{RowState}
-use Rattle.formats.specs.declared.row.RowState.the-variants.{Empty, Here, Away, Gone, NoState}
+use Rattle.formats.specs.declared.row.RowState.the-variants.{Empty, Here, Away, Gone}
 use Rattle.formats.proofs.Bytes.{bytes-part}
 use Rattle.formats.proofs.facts.Laws.{Ranges, ranges, in-range, permitting}
 use Rattle.formats.proofs.half.Laws.{wiped-length}
 use Rattle.formats.proofs.title.Laws.{length-titleHalf}
 use Rattle.formats.proofs.rule.Laws.{length-ruleHalf, wipedRule-length}
-use Rattle.formats.proofs.entry.Laws.{of-free, of-copy, of-full, entry-facts-range, entry-keys}
+use Rattle.formats.proofs.entry.Laws.{of-free, of-full, entry-facts-range, entry-keys}
 use Rattle.formats.proofs.head.Laws.{LedgerHead}
 use Rattle.formats.proofs.row.Laws.{here-length, plain-length, permits-length, state-here, state-plain-away, state-plain-gone, state-permits, here-facts, here-keys}
 use Rattle.calls.specs.Count.{oneLess, oneMore}
-use Rattle.calls.specs.Buffers.{Buffers, rowAt, titleAt, ruleAt, stateIn, stateAt, rowFacts, kindAt, contentAt, factsAt, isFree, isCopy, isFull, isEmpty, isHere, isAway, one, total, copyOf, copies, withRow}
-use Rattle.calls.specs.Refusal.{NoneHolds}
-use Rattle.calls.specs.Conditions.{numbered, arguments, heads, state}
+use Rattle.calls.specs.Buffers.{Buffers, rowAt, titleAt, ruleAt, stateAt, rowFacts, kindAt, contentAt, factsAt, isCopy, isFull, one, copies, withRow}
 use Rattle.formats.specs.Facts.{inRange}
-use Rattle.formats.specs.Head.{ledgerPasses, ledgerApplication, titlesPass, rulesPass, rulesApplication}
 use Rattle.calls.specs.Effect.{moved as afterMove, effect}
 use Rattle.calls.specs.Perform.{AreBytes}
-use Rattle.calls.specs.History.{Answered, Log, Placed, aCopy, theHolder, puts, lastAt, Deed, granted, checkedOut, checkedIn, moved, copyDeleted, holderDeleted, Event, event}
-use Rattle.calls.proofs.Passed.{is-numbered, Granted, are-facts, is-ledger, is-titles, is-rules, is-free, is-copy, is-full, is-empty, is-here, is-away, a-state, may-move, Passed, OnCard, on-card, Deletes, a-copy, a-holder, deletes}
-use Rattle.calls.proofs.Views.{IsRow, in-a-state, state-of-row, row-length, row-written, row-else, placeBy, placeOf, view, entry-length, copy-place, full-place, wiped-copy-place, wiped-full-place, place-title, place-title-else, place-both, place-both-else}
+use Rattle.calls.specs.History.{Log, aCopy, theHolder, puts, lastAt, Deed, granted, checkedOut, checkedIn, moved, copyDeleted, holderDeleted, event}
+use Rattle.calls.proofs.Passed.{is-numbered, are-facts, is-ledger, is-free, is-copy, is-full, is-empty, is-here, is-away, a-state, may-move, Passed, OnCard, on-card, a-copy, a-holder, deletes}
+use Rattle.calls.proofs.Views.{IsRow, in-a-state, state-of-row, row-length, row-written, row-else, placeBy, view, entry-length, copy-place, full-place, wiped-copy-place, wiped-full-place, place-title, place-title-else, place-both, place-both-else}
 use Rattle.calls.proofs.Counts.{less-most, more-most}
 use Rattle.calls.proofs.History.Totals.{Within, total-same}
-use Rattle.calls.proofs.History.Titles.{Place, vacant, copy, full, copyIn, fullIn, eqb-self, Turn, t-register, t-record, t-check-out, t-check-in, t-move-out, t-move-in, t-delete-copy, t-delete-holder, turn-at}
-use Rattle.calls.proofs.History.Step.{State, Agree, At, Inv, Change, copiesIn}
+use Rattle.calls.proofs.History.Titles.{Place, vacant, copy, full, copyIn, eqb-self, Turn, t-register, t-record, t-check-out, t-check-in, t-move-out, t-move-in, t-delete-copy, t-delete-holder, turn-at}
+use Rattle.calls.proofs.History.Step.{Agree, At, Inv, Change, copiesIn}
 
 -- the copies that the bytes show are those at the places
 copy-counts : (c : ℕ) (k : EntryKind) (id : ℕ) (f : Facts) → copyIn c (placeBy k id f) ≡ one (isCopy k && eqb id c)

@@ -6,15 +6,14 @@ use mathlib.Core.Logic.{_≢_, _⊎_, inl, inr}
 use mathlib.Core.List.{_∷_}
 use native.Mathlib.Omega.{arith}
 use native.Mathlib.Decide.{ℕ-discrete}
-use lib.Dec.{eqb}
 use borrow.Author.Tests.{ne-eqb}
 use Rattle.formats.specs.declared.facts.Facts.{Facts}
 use Rattle.formats.specs.declared.request.Request.{Request}
 use Rattle.formats.specs.declared.row.RowState.{RowState}
 use Rattle.calls.specs.Buffers.{total}
-use Rattle.calls.specs.History.{Answered, Log, Placed, aCopy, theHolder, puts, lastAt, Deed, Event, event, deeds}
+use Rattle.calls.specs.History.{Answered, Log, Placed, aCopy, theHolder, puts, lastAt, Deed, event, deeds}
 use Rattle.calls.proofs.History.Totals.{Within, total-same, total-put, total-at, total-some}
-use Rattle.calls.proofs.History.Titles.{Place, vacant, copy, full, copyIn, fullIn, eqb-self, Standing, Turn, own, other, Apart, apart}
+use Rattle.calls.proofs.History.Titles.{Place, vacant, copy, full, copyIn, fullIn, eqb-self, Standing, Turn, own, other, apart}
 
 -- what the titles' rows and the places are
 pub record State : Type 0 where
