@@ -16,6 +16,15 @@ use Rattle.calls.specs.Conditions.{conditions}
 use Rattle.calls.specs.Effect.{effect}
 use Rattle.calls.specs.Perform.{refusal, perform, RefusedFirst}
 
+-- B, and A as well where a test holds
+abbrev Also : Bool → Type 0 → Type 0 → Type 0
+Also true A B = A × B
+Also false A B = B
+
+also : (x : Bool) (A B : Type 0) → A → B → Also x A B
+also true A B p q = (p, q)
+also false A B p q = q
+
 -- no condition has the number 0, which is the answer of a call that is done
 abbrev pub refusing : List Condition → Bool
 refusing [] = true
@@ -113,12 +122,22 @@ abbrev pub meets : ℕ → List Condition → Bool
 meets n [] = false
 meets n ((m when b) ∷ rest) = (eqb m n && b) || meets n rest
 
--- "Each number is returned on its condition and on no other."
+-- an answer other than 0 is the number of a condition that holds
 pub only-met : (n : ℕ) (cs : List Condition) → n ≢ 0 → first cs ≡ n → meets n cs ≡ true
 unfolding first
 only-met n [] some e = absurd (some (sym e))
 only-met n ((m when true) ∷ cs) some e = ap (λ (x : Bool). (x && true) || meets n cs) (eq-eqb m n e)
 only-met n ((m when false) ∷ cs) some e = one-holds {a = eqb m n && false} (inr (only-met n cs some e))
+
+-- no condition of number n holds
+abbrev pub Unmet : ℕ → List Condition → Type 0
+Unmet n [] = Unit
+Unmet n ((m when b) ∷ rest) = Also (eqb m n) (b ≡ false) (Unmet n rest)
+
+-- where none holds, none of number n does
+pub unmet : (n : ℕ) (cs : List Condition) → NoneHolds cs → Unmet n cs
+unmet n [] h = tt
+unmet n ((m when b) ∷ cs) h = also (eqb m n) (b ≡ false) (Unmet n cs) (h .0) (unmet n cs (h .1))
 
 -- THE CALLS
 
@@ -139,6 +158,10 @@ module _ (k : Request) (b : Buffers) where
   unfolding perform refusal
   answer-first = refl
 
+  -- "Each number is returned on its condition and on no other."
+  pub refused-by : (n : ℕ) → n ≢ 0 → perform k b .answer ≡ n → meets n (conditions k b) ≡ true
+  refused-by n some e = only-met n (conditions k b) some (sym answer-first ∙ e)
+
   -- refused, it changes no byte
   pub unchanged : perform k b .answer ≢ 0 → perform k b .buffers ≡ b
   unfolding perform
@@ -152,6 +175,10 @@ module _ (k : Request) (b : Buffers) where
   -- done, none of its conditions holds
   pub none-holds : perform k b .answer ≡ 0 → NoneHolds (conditions k b)
   none-holds zero = to-none (conditions k b) (conditions-refuse k b) (sym answer-first ∙ zero)
+
+  -- of whatever number
+  pub passed : perform k b .answer ≡ 0 → (n : ℕ) → Unmet n (conditions k b)
+  passed zero n = unmet n (conditions k b) (none-holds zero)
 
 -- Demand 1: a call that meets a condition gets the number of the first one and changes nothing; every other call is done.
 pub refused-first : (k : Request) (b : Buffers) → RefusedFirst k b

@@ -57,7 +57,7 @@ E4 = Says (checkOut 5 999) (0x03 ∷ 0x05 ∷ 0xE7 ∷ 0x07 ∷ [])
 
 -- a title half that is written with a CCI, a key and an ID is these bytes; they make a copy, beside any rule half that is
 -- not usable, and CCI, key and ID are read from them
-pub record IsCopy (cci key id : ℕ) (bytes : List ℕ) : Type 0 where
+pub record CopyHalf (cci key id : ℕ) (bytes : List ℕ) : Type 0 where
   pub written : titleHalf cci key id ≡ bytes
   pub copy : (r : List ℕ) → usableOf r ≡ false → kindOf bytes r ≡ Copy
   pub cci-read : cciOf bytes ≡ cci
@@ -67,14 +67,15 @@ pub record IsCopy (cci key id : ℕ) (bytes : List ℕ) : Type 0 where
 -- E5: copy, CCI 2, key 11223344556677h, ID 999: 02 11 22 33 44 55 66 77 80 00 00 00 00 00 03 E7
 abbrev pub E5 : Type 0
 E5 =
-    IsCopy 2 0x11223344556677 999
+    CopyHalf 2 0x11223344556677 999
     (0x02 ∷ 0x11 ∷ 0x22 ∷ 0x33 ∷ 0x44 ∷ 0x55 ∷ 0x66 ∷ 0x77 ∷ 0x80 ∷ 0x00 ∷ 0x00 ∷ 0x00 ∷ 0x00 ∷ 0x00 ∷ 0x03 ∷ 0xE7 ∷ [])
 
--- row c is here with these facts' rights, or permits
+-- row c is here with these rights
 pub record RightsInRow (b : Buffers) (c rights : ℕ) : Type 0 where
   pub here : isHere (stateAt b c) ≡ true
   pub are : rowFacts b c .rights ≡ rights
 
+-- with these permits
 pub record PermitsInRow (b : Buffers) (c permits : ℕ) : Type 0 where
   pub here : isHere (stateAt b c) ≡ true
   pub are : rowFacts b c .permits ≡ permits
@@ -101,7 +102,7 @@ pub record Moves (before after : ℕ) : Type 0 where
 abbrev pub E6 : Type 0
 E6 = Moves 15 15 × Moves 14 13 × Moves 1 0
 
--- the rule table passes but for its version
+-- condition 9 has nothing against the rule table but, it may be, its version
 pub record PassesButVersion (b : Buffers) : Type 0 where
   pub table : tablePasses 0x4D31 32000 32 0x02 (b .rules) ≡ true
   pub application : rulesApplication (b .rules) ≡ ledgerApplication (b .ledger)
