@@ -16,15 +16,6 @@ use Rattle.calls.specs.Conditions.{conditions}
 use Rattle.calls.specs.Effect.{effect}
 use Rattle.calls.specs.Perform.{refusal, perform, RefusedFirst}
 
--- B, and A as well where a test holds
-abbrev Also : Bool → Type 0 → Type 0 → Type 0
-Also true A B = A × B
-Also false A B = B
-
-also : (x : Bool) (A B : Type 0) → A → B → Also x A B
-also true A B p q = (p, q)
-also false A B p q = q
-
 -- no condition has the number 0, which is the answer of a call that is done
 abbrev pub refusing : List Condition → Bool
 refusing [] = true
@@ -128,6 +119,15 @@ unfolding first
 only-met n [] some e = absurd (some (sym e))
 only-met n ((m when true) ∷ cs) some e = ap (λ (x : Bool). (x && true) || meets n cs) (eq-eqb m n e)
 only-met n ((m when false) ∷ cs) some e = one-holds {a = eqb m n && false} (inr (only-met n cs some e))
+
+-- B, and A as well where a test holds
+abbrev Also : Bool → Type 0 → Type 0 → Type 0
+Also true A B = A × B
+Also false A B = B
+
+also : (x : Bool) (A B : Type 0) → A → B → Also x A B
+also true A B p q = (p, q)
+also false A B p q = q
 
 -- no condition of number n holds
 abbrev pub Unmet : ℕ → List Condition → Type 0

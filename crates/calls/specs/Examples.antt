@@ -75,7 +75,7 @@ pub record RightsInRow (b : Buffers) (c rights : ℕ) : Type 0 where
   pub here : isHere (stateAt b c) ≡ true
   pub are : rowFacts b c .rights ≡ rights
 
--- with these permits
+-- row c is here with these permits
 pub record PermitsInRow (b : Buffers) (c permits : ℕ) : Type 0 where
   pub here : isHere (stateAt b c) ≡ true
   pub are : rowFacts b c .permits ≡ permits
