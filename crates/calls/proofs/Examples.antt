@@ -1,7 +1,7 @@
 -- The ten examples of the paper's table.
 -- Assumes nothing.
-use Prim.Native.Nat.{ℕ, _*_, _≤_}
-use mathlib.Core.Path.{_≡_, refl, sym, ap, ap₂, _∙_}
+use Prim.Native.Nat.{ℕ, _≤_}
+use mathlib.Core.Path.{_≡_, refl, sym, ap, _∙_}
 use mathlib.Core.Logic.{_≢_, inl, inr}
 use mathlib.Core.List.{List, _++_}
 use mathlib.Core.Bool.{Bool, true, false, not, _&&_, _||_, true≢false}
@@ -12,9 +12,7 @@ use borrow.Author.Tests.{eq-eqb, eqb-true}
 use Rattle.formats.specs.Field.{number, bytesOf}
 use Rattle.formats.specs.Half.{halfBytes, flagOf, usableOf, idOf}
 use Rattle.formats.specs.Title.{cciOf, titleHalf}
-use Rattle.formats.specs.Entry.{kindOf, entryFacts}
-use Rattle.formats.specs.Rule.{rightsOf, ruleHalf}
-use Rattle.formats.specs.Row.{stateOf, hereRow, withPermits}
+use Rattle.formats.specs.Entry.{kindOf}
 use Rattle.formats.specs.Head.{rulesPass, rulesApplication, ledgerApplication}
 use Rattle.formats.specs.Number.{groupsIn, groups, readFrom, readNumber}
 use Rattle.formats.specs.Request.{kindOf as callOf, numbers, written, readRequest, readArguments, schema, requestOf}
@@ -23,30 +21,25 @@ use Rattle.formats.specs.declared.facts.ContentId.{ContentId}
 use Rattle.formats.specs.declared.facts.EntryNumber.{EntryNumber}
 use Rattle.formats.specs.declared.facts.Fillers.{Fillers}
 use Rattle.formats.specs.declared.row.RowState.{RowState}
-use Rattle.formats.specs.declared.row.RowState.the-variants.{Here, Away}
+use Rattle.formats.specs.declared.row.RowState.the-variants.{Here}
 use Rattle.formats.specs.declared.entry.EntryKind.the-variants.{Torn}
 use Rattle.formats.specs.declared.request.Request.{Request}
 use Rattle.formats.specs.declared.request.Request.the-variants.{Register, Record, CheckOut, CheckIn, MoveOut, MoveIn, Delete}
 use Rattle.formats.proofs.Tests.{both, refuted, either}
-use Rattle.formats.proofs.entry.Laws.{kind-copy, kind-full, torn-cci, torn-ids, of-full, entry-facts-range, entry-keys}
-use Rattle.formats.proofs.half.Laws.{written-id}
-use Rattle.formats.proofs.title.Laws.{length-titleHalf, title-written}
-use Rattle.formats.proofs.rule.Laws.{length-ruleHalf, rule-rights}
-use Rattle.formats.proofs.Bytes.{bytes-part}
-use Rattle.formats.proofs.head.Laws.{LedgerHead, table-head, rules-head, rules-pass}
-use Rattle.formats.proofs.facts.Laws.{Ranges, ranges, in-range, permitting}
-use Rattle.formats.proofs.row.Laws.{here-facts, here-length, permits-length, state-permits, state-here}
+use Rattle.formats.proofs.entry.Laws.{kind-copy, torn-cci, torn-ids}
+use Rattle.formats.proofs.head.Laws.{table-head, rules-head, rules-pass}
+use Rattle.formats.proofs.facts.Laws.{in-range, permitting}
 use Rattle.calls.specs.Count.{oneLess, oneMore}
-use Rattle.calls.specs.Buffers.{Buffers, rowAt, titleAt, ruleAt, stateAt, rowFacts, hereFacts, kindAt, contentAt, factsAt, isCopy, isHere}
+use Rattle.calls.specs.Buffers.{Buffers, stateAt, rowFacts, hereFacts, kindAt, contentAt, factsAt, isCopy, isHere}
 use Rattle.calls.specs.Refusal.{first}
 use Rattle.calls.specs.Conditions.{arguments, allHeads, mayNotMove, state, conditions}
-use Rattle.calls.specs.Effect.{moved, effect}
+use Rattle.calls.specs.Effect.{moved}
 use Rattle.calls.specs.Perform.{perform, AreBytes}
 use Rattle.calls.specs.Examples.{E1, E2, E3, E4, E5, RightsInRow, PermitsInRow, RightsInEntry, Moves, E6, E7, E8, ChecksIn, PassesUntil15, E9, E10, TenExamples}
-use Rattle.calls.proofs.Refusals.{past, of-first, meets, answer-first, refused-by, passed, carried-out, holds-not, fails-so}
-use Rattle.calls.proofs.Counts.{less-most, more-most}
-use Rattle.calls.proofs.Views.{IsRow, in-a-state, state-of-row, row-length, row-written, entry-same, entry-length}
-use Rattle.calls.proofs.Passed.{is-numbered, is-ledger, is-titles, is-rules, is-full, is-here, is-away, a-state}
+use Rattle.calls.proofs.Refusals.{past, of-first, meets, answer-first, refused-by, carried-out, holds-not, fails-so}
+use Rattle.calls.proofs.Views.{view, full-entry}
+use Rattle.calls.proofs.Passed.{passed}
+use Rattle.calls.proofs.Done.{check-in-leaves, move-out-leaves, move-in-leaves}
 
 example-1 : E1
 unfolding groups groupsIn readNumber readFrom
@@ -92,27 +85,12 @@ fails : (x : Bool) → (not x || false) ≡ true → x ≡ false
 fails true e = absurd (true≢false (sym e))
 fails false e = refl
 
--- a row that is here, as its bytes say
-module _ (b : Buffers) (c : ℕ) (head : LedgerHead (b .ledger)) (here : not (isHere (stateAt b c)) ≡ false) where
-  is-row : IsRow (b .ledger) c
-  is-row = in-a-state (b .ledger) c head (a-state (Here (rowFacts b c)) refl (is-here (stateAt b c) here))
-
-  row-here : stateOf (rowAt (b .ledger) c) ≡ Here (rowFacts b c)
-  row-here = sym (state-of-row (b .ledger) c (is-row .from) (is-row .to)) ∙ is-here (stateAt b c) here
-
-  row-ranges : Ranges (rowFacts b c)
-  row-ranges = ranges (here-facts (rowAt (b .ledger) c) row-here .passes)
-
 -- what condition 9 tests
 abbrev sameApplication : Buffers → Bool
 sameApplication b = eqb (rulesApplication (b .rules)) (ledgerApplication (b .ledger))
 
 abbrev rulesOk : Buffers → Bool
 rulesOk b = rulesPass (b .rules) && sameApplication b
-
--- facts after a move are in their ranges
-moved-ranges : (f : Facts) → Ranges f → Ranges (moved f)
-moved-ranges f r = record { cci = r .cci; kind = r .kind; trigger = r .trigger; rights = less-most (f .rights) (r .rights); permits = r .permits }
 
 module _ (b : Buffers) (j : EntryNumber) (h : ℕ) (f : Fillers) where
   -- the facts that are moved out
@@ -128,26 +106,10 @@ module _ (b : Buffers) (j : EntryNumber) (h : ℕ) (f : Fillers) where
   -- done, it leaves the row here with one right less
   less-in-row : AreBytes b → perform (MoveOut j h f) b .answer ≡ 0
       → RightsInRow (perform (MoveOut j h f) b .buffers) (contentAt b (j .0)) (oneLess (entry-facts .rights))
-  unfolding conditions effect
   less-in-row are-bytes e =
-      let unmet = passed (MoveOut j h f) b e in
-      let c = contentAt b (j .0) in
-      let t = titleAt (b .titles) (j .0) in
-      let r = ruleAt (b .rules) (j .0) in
-      let in-table = is-numbered (j .0) (unmet 5 .0) in
-      let head = is-ledger (b .ledger) (unmet 7 .0) in
-      let full = of-full t r (is-full (kindAt b (j .0)) (unmet 10 .0)) in
-      let row = in-a-state (b .ledger) c head (a-state Away refl (is-away (stateAt b c) (unmet 11 .0))) in
-      let t-bytes = bytes-part (b .titles) (16 * j .0) 16 (are-bytes .titles) in
-      let r-bytes = bytes-part (b .rules) (32 * j .0) 32 (are-bytes .rules) in
-      let t-long = entry-length 16 (b .titles) (is-titles (b .titles) (unmet 8 .0)) (j .0) in-table in
-      let r-long = entry-length 32 (b .rules) (is-rules (b .rules) (sameApplication b) (unmet 9 .0)) (j .0) in-table in
-      let keys = entry-keys t r t-bytes r-bytes t-long r-long in
-      let g = moved entry-facts in
-      rights-in (perform (MoveOut j h f) b .buffers) c g
-      (ap (λ (x : Buffers). stateAt x c) (carried-out (MoveOut j h f) b e)
-      ∙ row-written (b .ledger) c row (hereRow g) (here-length g)
-      ∙ state-here g (in-range (moved-ranges entry-facts (entry-facts-range t r t-bytes r-bytes (full .title-sound)))) (keys .0) (keys .1)) refl
+      rights-in (perform (MoveOut j h f) b .buffers) (contentAt b (j .0)) (moved entry-facts)
+      (ap (λ (x : Buffers). stateAt x (contentAt b (j .0))) (carried-out (MoveOut j h f) b e)
+      ∙ move-out-leaves b j h f are-bytes (passed (MoveOut j h f) b e) .row) refl
 
 module _ (b : Buffers) (c : ContentId) (j : EntryNumber) (h : ℕ) where
   -- the facts that are moved in
@@ -161,30 +123,13 @@ module _ (b : Buffers) (c : ContentId) (j : EntryNumber) (h : ℕ) where
       alone (mayNotMove row-facts) (refused-by (MoveIn c j h) b 12 (λ z. omega arith) e)
 
   -- done, it leaves the entry full with one right less
-  less-in-entry : perform (MoveIn c j h) b .answer ≡ 0
+  less-in-entry : AreBytes b → perform (MoveIn c j h) b .answer ≡ 0
       → RightsInEntry (perform (MoveIn c j h) b .buffers) (j .0) (c .0) (oneLess (row-facts .rights))
-  unfolding conditions effect entryFacts
-  less-in-entry e =
-      let unmet = passed (MoveIn c j h) b e in
-      let as-title = is-numbered (c .0) (unmet 4 .0) in
-      let in-table = is-numbered (j .0) (unmet 5 .0) in
-      let titles-long = is-titles (b .titles) (unmet 8 .0) in
-      let rules-long = is-rules (b .rules) (sameApplication b) (unmet 9 .0) in
-      let was = row-ranges b (c .0) (is-ledger (b .ledger) (unmet 7 .0)) (unmet 11 .0) in
-      let g = moved row-facts in
-      let now = moved-ranges row-facts was in
-      let t = titleHalf (g .cci) (g .«title_key») (c .0) in
-      let r = ruleHalf g h (c .0) in
-      let done = carried-out (MoveIn c j h) b e in
-      let t-is : titleAt (perform (MoveIn c j h) b .buffers .titles) (j .0) ≡ t =
-      ap (λ (x : Buffers). titleAt (x .titles) (j .0)) done ∙ entry-same 16 (b .titles) titles-long t (length-titleHalf (g .cci) (g .«title_key») (c .0)) (j .0) in-table in
-      let r-is : ruleAt (perform (MoveIn c j h) b .buffers .rules) (j .0) ≡ r =
-      ap (λ (x : Buffers). ruleAt (x .rules) (j .0)) done ∙ entry-same 32 (b .rules) rules-long r (length-ruleHalf g h (c .0)) (j .0) in-table in
-      record {
-        full = ap₂ kindOf t-is r-is ∙ kind-full (g .cci) (g .«title_key») (c .0) (as-title .from) (as-title .to) (omega (arith, now .cci)) (now .kind) g h;
-        id = ap idOf t-is ∙ written-id (title-written (g .cci) (g .«title_key») (c .0)) (omega (arith, as-title .to));
-        are = ap rightsOf r-is ∙ rule-rights g h (c .0) (omega (arith, now .rights));
-      }
+  less-in-entry are-bytes e =
+      let after = perform (MoveIn c j h) b .buffers in
+      let (k, id, facts) = full-entry (kindAt after (j .0)) (contentAt after (j .0)) (factsAt after (j .0)) (c .0) (moved row-facts)
+      (ap (λ (x : Buffers). view x .places (j .0)) (carried-out (MoveIn c j h) b e) ∙ move-in-leaves b c j h are-bytes (passed (MoveIn c j h) b e) .place) in
+      record { full = k; id = id; are = ap (λ (x : Facts). x .rights) facts }
 
 -- neither the trigger nor rights other than 0 forbid a move
 may : (f : Facts) → f .rights ≢ 0 → f .trigger ≢ 1 → mayNotMove f ≢ true
@@ -202,8 +147,8 @@ moves before after some e =
           record { here = row .here; are = row .are ∙ ap oneLess are ∙ e };
       may-move-in = λ b c j h are untriggered refused.
           may (rowFacts b (c .0)) (λ none. some (sym are ∙ none)) untriggered (only-12-in b c j h refused);
-      moved-in = λ b c j h are zero.
-          let entry = less-in-entry b c j h zero in
+      moved-in = λ b c j h are-bytes are zero.
+          let entry = less-in-entry b c j h are-bytes zero in
           record { full = entry .full; id = entry .id; are = entry .are ∙ ap oneLess are ∙ e };
     }
 
@@ -279,20 +224,9 @@ module _ (b : Buffers) (j : EntryNumber) (f1 : ℕ) where
 
   -- done, it leaves the row here with one permit more
   one-more : perform (CheckIn j f1) b .answer ≡ 0 → PermitsInRow (perform (CheckIn j f1) b .buffers) its (oneMore (rowFacts b its .permits))
-  unfolding conditions effect
   one-more e =
-      let unmet = passed (CheckIn j f1) b e in
-      let head = is-ledger (b .ledger) (unmet 7 .0) in
-      let here = unmet 11 .0 in
-      let row = is-row b its head here in
-      let f = rowFacts b its in
-      let bytes = rowAt (b .ledger) its in
-      let long = row-length (b .ledger) its row in
-      let more = oneMore (f .permits) in
-      permits-in (perform (CheckIn j f1) b .buffers) its (permitting f more)
-      (ap (λ (x : Buffers). stateAt x its) (carried-out (CheckIn j f1) b e)
-      ∙ row-written (b .ledger) its row (withPermits bytes more) (permits-length bytes more long)
-      ∙ state-permits bytes more long (row-here b its head here) (more-most (f .permits) (row-ranges b its head here .permits))) refl
+      permits-in (perform (CheckIn j f1) b .buffers) its (permitting (rowFacts b its) (oneMore (rowFacts b its .permits)))
+      (ap (λ (x : Buffers). stateAt x its) (carried-out (CheckIn j f1) b e) ∙ check-in-leaves b j f1 (passed (CheckIn j f1) b e) .row) refl
 
   -- at permits 14 it is refused
   at-14 : PassesUntil15 b j f1 → rowFacts b its .permits ≡ 14 → perform (CheckIn j f1) b .answer ≡ 15

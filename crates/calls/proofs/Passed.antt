@@ -20,10 +20,9 @@ use Rattle.formats.proofs.Tests.{split}
 use Rattle.formats.proofs.facts.Laws.{Ranges, ranges}
 use Rattle.formats.proofs.head.Laws.{LedgerHead, ledger-head, titles-length, rules-length}
 use Rattle.calls.specs.Buffers.{Buffers, stateAt, hereFacts, kindAt, contentAt, isFree, isCopy, isFull, isEmpty, isHere, isAway}
-use Rattle.calls.specs.Refusal.{NoneHolds}
 use Rattle.calls.specs.Conditions.{numbered, factsPass, mayNotMove, arguments, heads, state, conditions}
 use Rattle.calls.specs.Perform.{perform}
-use Rattle.calls.proofs.Refusals.{none-holds}
+use Rattle.calls.proofs.Refusals.{none-holds, Unmet, unmet}
 use Rattle.calls.proofs.History.Totals.{Within}
 
 -- 4 and 5: the number is 1 to 999
@@ -115,14 +114,14 @@ may-move f e = eqb-false _ _ (second (eqb (f .trigger) 1) (eqb (f .rights) 0) e)
     second true b e = absurd (true≢false e)
     second false b e = e
 
--- none of a call's conditions holds
+-- none of a call's conditions holds: the condition n is named by its number
 abbrev pub Passed : Request → Buffers → Type 0
-Passed k b = NoneHolds (arguments k ++ (heads k b ++ state k b))
+Passed k b = (n : ℕ) → Unmet n (arguments k ++ (heads k b ++ state k b))
 
 -- a call that is done has passed all of them
 pub passed : (k : Request) (b : Buffers) → perform k b .answer ≡ 0 → Passed k b
 unfolding conditions
-passed k b done = none-holds k b done
+passed k b done n = unmet n (conditions k b) (none-holds k b done)
 
 -- a call on entry j has found the heads of all three buffers right
 pub record OnCard (b : Buffers) (j : ℕ) : Type 0 where

@@ -176,10 +176,6 @@ module _ (k : Request) (b : Buffers) where
   pub none-holds : perform k b .answer ≡ 0 → NoneHolds (conditions k b)
   none-holds zero = to-none (conditions k b) (conditions-refuse k b) (sym answer-first ∙ zero)
 
-  -- of whatever number
-  pub passed : perform k b .answer ≡ 0 → (n : ℕ) → Unmet n (conditions k b)
-  passed zero n = unmet n (conditions k b) (none-holds zero)
-
 -- Demand 1: a call that meets a condition gets the number of the first one and changes nothing; every other call is done.
 pub refused-first : (k : Request) (b : Buffers) → RefusedFirst k b
 refused-first k b =

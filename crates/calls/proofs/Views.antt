@@ -105,6 +105,13 @@ placeBy Torn c f = vacant
 abbrev pub placeOf : List ℕ → List ℕ → Place
 placeOf t r = placeBy (kindOf t r) (idOf t) (entryFacts t r)
 
+-- a place that has c in full is a full entry with its ID
+pub full-entry : (k : EntryKind) (id : ℕ) (f : Facts) (c : ℕ) (h : Facts) → placeBy k id f ≡ full c h → (k ≡ Full) × (id ≡ c) × (f ≡ h)
+full-entry Free id f c h e = (cc, cc, cc)
+full-entry Copy id f c h e = (cc, cc, cc)
+full-entry Full id f c h e = (refl, cc, cc)
+full-entry Torn id f c h e = (cc, cc, cc)
+
 -- what the rows and entries are
 abbrev pub view : Buffers → State
 view b = record { rows = stateAt b; places = λ j. placeOf (titleAt (b .titles) j) (ruleAt (b .rules) j) }

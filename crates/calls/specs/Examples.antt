@@ -95,7 +95,7 @@ pub record Moves (before after : ℕ) : Type 0 where
       → perform (MoveOut j h f) b .answer ≡ 0 → RightsInRow (perform (MoveOut j h f) b .buffers) (contentAt b (j .0)) after
   pub may-move-in : (b : Buffers) (c : ContentId) (j : EntryNumber) (h : ℕ) → rowFacts b (c .0) .rights ≡ before
       → rowFacts b (c .0) .trigger ≢ 1 → perform (MoveIn c j h) b .answer ≢ 12
-  pub moved-in : (b : Buffers) (c : ContentId) (j : EntryNumber) (h : ℕ) → rowFacts b (c .0) .rights ≡ before
+  pub moved-in : (b : Buffers) (c : ContentId) (j : EntryNumber) (h : ℕ) → AreBytes b → rowFacts b (c .0) .rights ≡ before
       → perform (MoveIn c j h) b .answer ≡ 0 → RightsInEntry (perform (MoveIn c j h) b .buffers) (j .0) (c .0) after
 
 -- E6: rights 15 to 15, 14 to 13, 1 to 0 on a move

@@ -32,9 +32,9 @@ use Rattle.calls.specs.History.{Answered, Log, lastAt, Deed, deeds, time
 use Rattle.calls.proofs.Refusals.{unchanged, carried-out}
 use Rattle.calls.proofs.Passed.{passed}
 use Rattle.calls.proofs.Bounds.{in-bounds}
-use Rattle.calls.proofs.Views.{placeBy, placeOf, view}
+use Rattle.calls.proofs.Views.{placeBy, placeOf, view, full-entry}
 use Rattle.calls.proofs.History.Totals.{Within, total-same, total-none}
-use Rattle.calls.proofs.History.Titles.{vacant, full, copyIn, fullIn, Standing, Book, Unborn}
+use Rattle.calls.proofs.History.Titles.{vacant, copyIn, fullIn, Standing, Book, Unborn}
 use Rattle.calls.proofs.History.Step.{At, Inv, kept, copiesIn, fullsIn, holder-found}
 use Rattle.calls.proofs.History.Calls.{copies-seen, change}
 
@@ -138,13 +138,6 @@ full-counts c Torn id f = refl
 
 fulls-seen : (c : ℕ) (b : Buffers) → total 999 (λ j. one (fullOf c b j)) ≡ fullsIn 999 c (view b)
 fulls-seen c b = total-same 999 _ _ (λ j l. sym (full-counts c (kindAt b j) (contentAt b j) (factsAt b j)))
-
--- a place that has c in full is a full entry with its ID
-full-entry : (k : EntryKind) (id : ℕ) (f : Facts) (c : ℕ) (h : Facts) → placeBy k id f ≡ full c h → (k ≡ Full) × (id ≡ c) × (f ≡ h)
-full-entry Free id f c h e = (cc, cc, cc)
-full-entry Copy id f c h e = (cc, cc, cc)
-full-entry Full id f c h e = (refl, cc, cc)
-full-entry Torn id f c h e = (cc, cc, cc)
 
 module _ (c : ℕ) (f : Facts) (ds : List Deed) (b : Buffers) where
   from-book : (h : Facts) → Book ds h (copiesIn 999 c (view b)) → holders c b ≡ 1 → Holder c b h → grant ds ≡ some f → Story c f ds b
