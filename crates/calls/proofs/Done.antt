@@ -103,13 +103,13 @@ module _ (b : Buffers) where
 
   -- an entry's halves and their wiped forms have the halves' lengths
   module _ (j : ℕ) (o : OnCard b j) where
-    rule-long : length (ruleAt (b .rules) j) ≡ 32
+    pub rule-long : length (ruleAt (b .rules) j) ≡ 32
     rule-long = entry-length 32 (b .rules) (o .rules-long) j (o .entry)
 
-    wiped-title-long : (f1 : ℕ) → length (wiped (titleAt (b .titles) j) f1) ≡ 16
+    pub wiped-title-long : (f1 : ℕ) → length (wiped (titleAt (b .titles) j) f1) ≡ 16
     wiped-title-long f1 = let long = entry-length 16 (b .titles) (o .titles-long) j (o .entry) in wiped-length (titleAt (b .titles) j) f1 (omega arith) ∙ long
 
-    wiped-rule-long : (f : Fillers) → length (wipedRule (ruleAt (b .rules) j) f) ≡ 32
+    pub wiped-rule-long : (f : Fillers) → length (wipedRule (ruleAt (b .rules) j) f) ≡ 32
     wiped-rule-long f = wipedRule-length (ruleAt (b .rules) j) f rule-long ∙ rule-long
 
   -- THE SEVEN CALLS

@@ -6,3 +6,4 @@ pub mod Effect
 pub mod Perform
 pub mod History
 pub mod Examples
+pub mod Guards
