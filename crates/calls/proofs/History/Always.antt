@@ -31,7 +31,7 @@ use Rattle.calls.specs.Perform.{perform, AreBytes}
 use Rattle.calls.specs.History.{Answered, Log, lastAt, Deed, deeds, times, grant, Run, next, start, run, fullOf, holders, Holder, in-row, in-entry, Story, History}
 use Rattle.calls.proofs.Refusals.{unchanged, carried-out}
 use Rattle.calls.proofs.Passed.{passed}
-use Rattle.calls.proofs.Bounds.{in-bounds}
+use Rattle.calls.proofs.InBounds.{in-bounds}
 use Rattle.calls.proofs.Views.{placeBy, placeOf, view, full-entry}
 use Rattle.calls.proofs.History.Totals.{Within, total-same, total-none}
 use Rattle.calls.proofs.History.Titles.{vacant, copyIn, fullIn, Standing, Book, Unborn}
