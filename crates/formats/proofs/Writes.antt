@@ -23,10 +23,12 @@ pub wrote-start : (b : ℕ) (l : List ℕ) → b ≤ length l → Wrote b l [] l
 unfolding put
 wrote-start b l h = record { is = simp add-zero (sym (take-append-drop b l)); end = add-zero b; room = h }
 
-wrote-size : {b : ℕ} {before p now : List ℕ} {e : ℕ} → Wrote b before p now e → length now ≡ length before
+-- its length stays
+pub wrote-size : {b : ℕ} {before p now : List ℕ} {e : ℕ} → Wrote b before p now e → length now ≡ length before
 wrote-size {b} {before} {p} w = ap length (w .is) ∙ put-length before p b (omega (arith, w .room, w .end))
 
-wrote-next : {b : ℕ} {before p now : List ℕ} {e : ℕ} (q : List ℕ) (n : ℕ) → length q ≡ n → Wrote b before p now e → e + n ≤ length before → Wrote b before (p ++ q) (put now e q) (e + n)
+-- n bytes put at the next place
+pub wrote-next : {b : ℕ} {before p now : List ℕ} {e : ℕ} (q : List ℕ) (n : ℕ) → length q ≡ n → Wrote b before p now e → e + n ≤ length before → Wrote b before (p ++ q) (put now e q) (e + n)
 wrote-next {b} {before} {p} {now} {e} q n size w h =
     let end = w .end in
     record {

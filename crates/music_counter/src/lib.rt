@@ -1,0 +1,2 @@
+// The music counter over the byte formats: formatting a ledger and a card, and counting copies on a card.
+pub mod format;
