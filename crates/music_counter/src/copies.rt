@@ -6,23 +6,24 @@ ghost use Rattle.calls.specs.Buffers.{titleAt, ruleAt, isCopy, copyOf, copies};
 use formats::entry;
 use formats::entry::EntryKind;
 use formats::facts::ContentId;
+use formats::facts::EntryNumber;
 use formats::half;
 
-// The title half of entry j, as the part of the title table that it occupies.
-pub fn title_half(titles: &[u8], j: u64) -> &[u8]
-    requires { ⌜ (j < 1000) × (length (now titles) ≡ 16000) ⌝ }
-    ensures { λ r. ⌜ (now r ≡ titleAt (now (titles .entry)) j) × (length (now r) ≡ 16) ⌝ }
+// The title half of an entry, as the part of the title table that it occupies.
+pub fn title_half(titles: &[u8], entry: EntryNumber) -> &[u8]
+    requires { ⌜ (entry .0 < 1000) × (length (now titles) ≡ 16000) ⌝ }
+    ensures { λ r. ⌜ (now r ≡ titleAt (now (titles .entry)) (entry .0)) × (length (now r) ≡ 16) ⌝ }
 {
-    let a = 16 * (j as usize);
+    let a = 16 * (entry.0 as usize);
     &titles[a..a + 16]
 }
 
-// The rule half of entry j, as the part of the rule table that it occupies.
-pub fn rule_half(rules: &[u8], j: u64) -> &[u8]
-    requires { ⌜ (j < 1000) × (length (now rules) ≡ 32000) ⌝ }
-    ensures { λ r. ⌜ (now r ≡ ruleAt (now (rules .entry)) j) × (length (now r) ≡ 32) ⌝ }
+// The rule half of an entry, as the part of the rule table that it occupies.
+pub fn rule_half(rules: &[u8], entry: EntryNumber) -> &[u8]
+    requires { ⌜ (entry .0 < 1000) × (length (now rules) ≡ 32000) ⌝ }
+    ensures { λ r. ⌜ (now r ≡ ruleAt (now (rules .entry)) (entry .0)) × (length (now r) ≡ 32) ⌝ }
 {
-    let a = 32 * (j as usize);
+    let a = 32 * (entry.0 as usize);
     &rules[a..a + 32]
 }
 
@@ -55,7 +56,8 @@ pub fn count(titles: &[u8], rules: &[u8], content: ContentId) -> u64
 {
     let mut n: u64 = 0;
     for j in 1..=999 {
-        if is_copy_of(title_half(titles, j), rule_half(rules, j), content) {
+        let entry = EntryNumber(j);
+        if is_copy_of(title_half(titles, entry), rule_half(rules, entry), content) {
             n += 1;
         }
     }

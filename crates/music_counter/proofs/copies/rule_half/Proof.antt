@@ -24,7 +24,7 @@ part-result-end : tie.Need-part-result-end
 part-result-end c = search needs
 
 returns : tie.Need-returns
-returns c = lent (32 * c .before .args .j) 32 (now (c .before .args .rules)) (omega arith)
+returns c = lent (32 * c .before .args .entry .0) 32 (now (c .before .args .rules)) (omega arith)
 
 pub rule-half-spec : {M : Type 1} → statement M
 rule-half-spec =

@@ -24,7 +24,7 @@ part-result-end : tie.Need-part-result-end
 part-result-end c = search needs
 
 returns : tie.Need-returns
-returns c = lent (16 * c .before .args .j) 16 (now (c .before .args .titles)) (omega arith)
+returns c = lent (16 * c .before .args .entry .0) 16 (now (c .before .args .titles)) (omega arith)
 
 pub title-half-spec : {M : Type 1} → statement M
 title-half-spec =
