@@ -6,6 +6,7 @@ use mathlib.Core.List.{List, [], _∷_}
 use mathlib.Core.Bool.{Bool, true, false, not, _&&_, cond}
 use lib.Dec.{eqb, leb}
 use borrow.Author.Tests.{le-leb, leb-true, eq-eqb, ne-eqb}
+use Rattle.formats.specs.Refusal.{unless as answer}
 use Rattle.formats.proofs.Tests.{refuted, split, both}
 use Rattle.calls.specs.Refusal.{Condition, _when_, _unless_, first}
 use Rattle.calls.specs.Conditions.{numbered}
@@ -25,6 +26,12 @@ module _ (n : ℕ) (b : Bool) (rest : List Condition) where
   pub skip : {m : ℕ} → b ≡ true → m ≡ first rest → m ≡ first (n unless b ∷ rest)
   unfolding first
   skip e q = q ∙ sym (ap (λ (x : Bool). cond (not x) n (first rest)) e)
+
+-- a check that answers its number refuses with it
+pub refused : (n : ℕ) (b : Bool) (rest : List Condition) {w : ℕ} → w ≡ answer b n → (w ≡ 0 → ⊥) → w ≡ first (n unless b ∷ rest)
+unfolding first
+refused n true rest e h = absurd (h e)
+refused n false rest e h = e
 
 -- what a refusal leaves, and what a done call makes, of a buffer
 module _ {n answer : ℕ} (made old : List ℕ) (e : n ≡ answer) where
