@@ -1,3 +1,4 @@
 pub mod First
 pub mod Fresh
 pub mod Counting
+pub mod History
