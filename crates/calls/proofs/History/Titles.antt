@@ -2,7 +2,7 @@
 -- log stand here.
 -- Assumes nothing.
 use Prim.Native.Nat.{ℕ, _+_}
-use mathlib.Core.Path.{_≡_, refl, sym, subst}
+use mathlib.Core.Path.{_≡_, refl, sym, subst, _∙_}
 use mathlib.Core.Logic.{_≢_, _⊎_, inl, inr}
 use mathlib.Core.List.{List, _∷_}
 use mathlib.Core.Option.{none, some}
@@ -137,65 +137,48 @@ module _ (ds : List Deed) (h : Facts) (n n′ : ℕ) where
         not-deleted = omega arith;
       }
 
+  -- after a deed that is no grant, the accounts are drawn up anew
+  b-next : (a : Deed) (h′ : Facts) (b : Book ds h n) → grant (a ∷ ds) ≡ grant ds → ((f : Facts) → times (granted f) (a ∷ ds) ≡ times (granted f) ds)
+      → h′ .«title_key» ≡ h .«title_key» → h′ .«sti_key» ≡ h .«sti_key»
+      → times checkedOut (a ∷ ds) ≡ n′ + times checkedIn (a ∷ ds) + times copyDeleted (a ∷ ds)
+      → Account (b .given .permits) (h′ .permits) (n′ + times copyDeleted (a ∷ ds)) → Account (b .given .rights) (h′ .rights) (times moved (a ∷ ds))
+      → times holderDeleted (a ∷ ds) ≡ 0 → Book (a ∷ ds) h′ n′
+  b-next a h′ b same-grant same-times title-key sti-key out permits rights not-deleted =
+      record {
+        given = b .given;
+        is-grant = same-grant ∙ b .is-grant;
+        once = λ f. same-times f ∙ b .once f;
+        title-key = title-key ∙ b .title-key;
+        sti-key = sti-key ∙ b .sti-key;
+        out = out;
+        permits = permits;
+        rights = rights;
+        not-deleted = not-deleted;
+      }
+
   b-out : Book ds h n → h .permits ≢ 0 → n′ ≡ n + 1 → Book (checkedOut ∷ ds) (permitting h (oneLess (h .permits))) n′
   unfolding times grant
   b-out b l e =
-      record {
-        given = b .given;
-        is-grant = b .is-grant;
-        once = λ f. omega (arith, b .once f);
-        title-key = b .title-key;
-        sti-key = b .sti-key;
-        out = omega (arith, b .out);
-        permits = spend (b .permits) l (omega arith);
-        rights = keep (b .rights) (omega arith);
-        not-deleted = omega (arith, b .not-deleted);
-      }
+      b-next checkedOut (permitting h (oneLess (h .permits))) b refl (λ f. omega arith) refl refl (omega (arith, b .out))
+      (spend (b .permits) l (omega arith)) (keep (b .rights) (omega arith)) (omega (arith, b .not-deleted))
 
   b-in : Book ds h n → n′ + 1 ≡ n → Book (checkedIn ∷ ds) (permitting h (oneMore (h .permits))) n′
   unfolding times grant
   b-in b e =
-      record {
-        given = b .given;
-        is-grant = b .is-grant;
-        once = λ f. omega (arith, b .once f);
-        title-key = b .title-key;
-        sti-key = b .sti-key;
-        out = omega (arith, b .out);
-        permits = refund (b .permits) (omega arith);
-        rights = keep (b .rights) (omega arith);
-        not-deleted = omega (arith, b .not-deleted);
-      }
+      b-next checkedIn (permitting h (oneMore (h .permits))) b refl (λ f. omega arith) refl refl (omega (arith, b .out))
+      (refund (b .permits) (omega arith)) (keep (b .rights) (omega arith)) (omega (arith, b .not-deleted))
 
   b-moved : Book ds h n → h .rights ≢ 0 → n′ ≡ n → Book (moved ∷ ds) (afterMove h) n′
   unfolding times grant
   b-moved b l e =
-      record {
-        given = b .given;
-        is-grant = b .is-grant;
-        once = λ f. omega (arith, b .once f);
-        title-key = b .title-key;
-        sti-key = b .sti-key;
-        out = omega (arith, b .out);
-        permits = keep (b .permits) (omega arith);
-        rights = spend (b .rights) l (omega arith);
-        not-deleted = omega (arith, b .not-deleted);
-      }
+      b-next moved (afterMove h) b refl (λ f. omega arith) refl refl (omega (arith, b .out))
+      (keep (b .permits) (omega arith)) (spend (b .rights) l (omega arith)) (omega (arith, b .not-deleted))
 
   b-copy-deleted : Book ds h n → n′ + 1 ≡ n → Book (copyDeleted ∷ ds) h n′
   unfolding times grant
   b-copy-deleted b e =
-      record {
-        given = b .given;
-        is-grant = b .is-grant;
-        once = λ f. omega (arith, b .once f);
-        title-key = b .title-key;
-        sti-key = b .sti-key;
-        out = omega (arith, b .out);
-        permits = keep (b .permits) (omega arith);
-        rights = keep (b .rights) (omega arith);
-        not-deleted = omega (arith, b .not-deleted);
-      }
+      b-next copyDeleted h b refl (λ f. omega arith) refl refl (omega (arith, b .out))
+      (keep (b .permits) (omega arith)) (keep (b .rights) (omega arith)) (omega (arith, b .not-deleted))
 
   b-deleted : Book ds h n → (f : Facts) → times (granted f) (holderDeleted ∷ ds) ≡ 1
   unfolding times
