@@ -30,8 +30,8 @@ use Rattle.calls.specs.Buffers.{Buffers, rowAt, titleAt, ruleAt, stateAt
 use Rattle.calls.specs.Effect.{moved, setPermits, effect}
 use Rattle.calls.specs.Perform.{AreBytes}
 use Rattle.calls.proofs.Counts.{less-most, more-most}
-use Rattle.calls.proofs.Passed.{is-numbered, are-facts, is-ledger, is-free, is-copy, is-full, is-empty, is-here, is-away, a-state, Passed, OnCard, on-card}
-use Rattle.calls.proofs.Views.{IsRow, in-a-state, state-of-row, row-length, row-written, row-else, placeOf, view, entry-length, copy-place, full-place, wiped-copy-place, wiped-full-place, place-title, place-title-else, place-both, place-both-else}
+use Rattle.calls.proofs.Passed.{are-facts, is-ledger, is-free, is-copy, is-full, is-empty, is-here, is-away, a-state, Passed, OnCard, on-card}
+use Rattle.calls.proofs.Views.{IsRow, in-a-state, state-of-row, row-numbered, row-length, row-written, row-else, placeOf, view, entry-length, copy-place, full-place, wiped-copy-place, wiped-full-place, place-title, place-title-else, place-both, place-both-else}
 use Rattle.calls.proofs.History.Totals.{Within}
 use Rattle.calls.proofs.History.Titles.{Place, vacant, copy, full}
 
@@ -130,29 +130,29 @@ module _ (b : Buffers) where
       → Leaves b (effect (Record c j f h) b) (c .0) (j .0) Away (full (c .0) f)
   unfolding effect
   record-leaves c j f h t =
-      let o = on-card b (j .0) (t 5 .0) (t 7 .0) (t 8 .0) (t 9 .0) in
+      let o = on-card b (j .0) _ (t 5 .0) (t 7 .0) (t 8 .0) (t 9 .0) in
       let g = are-facts f (t 6 .0) in
       let is = in-a-state (b .ledger) (c .0) (o .head) (a-state Empty refl (is-empty (stateAt b (c .0)) (t 11 .0))) in
       row-and-halves _ _ _ is o (plain-length 2) (length-titleHalf (f .cci) (f .«title_key») (c .0)) (length-ruleHalf f h (c .0)) state-plain-away
-      (full-place (c .0) (is-numbered (c .0) (t 4 .0)) f h (g .in-ranges) (g .title-key) (g .sti-key))
+      (full-place (c .0) (row-numbered (b .ledger) (c .0) is) f h (g .in-ranges) (g .title-key) (g .sti-key))
 
   pub check-out-leaves : (c : ContentId) (j : EntryNumber) → Passed (CheckOut c j) b
       → Leaves b (effect (CheckOut c j) b) (c .0) (j .0) (Here (permitting (rowFacts b (c .0)) (oneLess (rowFacts b (c .0) .permits)))) (copy (c .0))
   unfolding effect
   check-out-leaves c j t =
-      let o = on-card b (j .0) (t 5 .0) (t 7 .0) (t 8 .0) (t 9 .0) in
+      let o = on-card b (j .0) _ (t 5 .0) (t 7 .0) (t 8 .0) (t 9 .0) in
       let f = rowFacts b (c .0) in
       let h = here-row (c .0) (o .head) (is-here (stateAt b (c .0)) (t 11 .0)) in
       let unusable = of-free _ _ (is-free (kindAt b (j .0)) (t 10 .0)) .rule-unusable in
       permits-and-title _ h o (less-most (f .permits) (h .in-ranges .permits)) (length-titleHalf (f .cci) (f .«title_key») (c .0))
-      (copy-place (c .0) (is-numbered (c .0) (t 4 .0)) (f .cci) (f .«title_key») _ (omega (arith, h .in-ranges .cci)) (h .in-ranges .kind) unusable)
+      (copy-place (c .0) (row-numbered (b .ledger) (c .0) (h .is-row)) (f .cci) (f .«title_key») _ (omega (arith, h .in-ranges .cci)) (h .in-ranges .kind) unusable)
 
   pub check-in-leaves : (j : EntryNumber) (f1 : ℕ) → Passed (CheckIn j f1) b
       → Leaves b (effect (CheckIn j f1) b) (contentAt b (j .0)) (j .0)
       (Here (permitting (rowFacts b (contentAt b (j .0))) (oneMore (rowFacts b (contentAt b (j .0)) .permits)))) vacant
   unfolding effect
   check-in-leaves j f1 t =
-      let o = on-card b (j .0) (t 5 .0) (t 7 .0) (t 8 .0) (t 9 .0) in
+      let o = on-card b (j .0) _ (t 5 .0) (t 7 .0) (t 8 .0) (t 9 .0) in
       let c = contentAt b (j .0) in
       let h = here-row c (o .head) (is-here (stateAt b c) (t 11 .0)) in
       permits-and-title _ h o (more-most (rowFacts b c .permits) (h .in-ranges .permits)) (wiped-title-long (j .0) o f1)
@@ -162,7 +162,7 @@ module _ (b : Buffers) where
       → Leaves b (effect (MoveOut j h f) b) (contentAt b (j .0)) (j .0) (Here (moved (factsAt b (j .0)))) vacant
   unfolding effect
   move-out-leaves j h f are-bytes t =
-      let o = on-card b (j .0) (t 5 .0) (t 7 .0) (t 8 .0) (t 9 .0) in
+      let o = on-card b (j .0) _ (t 5 .0) (t 7 .0) (t 8 .0) (t 9 .0) in
       let c = contentAt b (j .0) in
       let g = factsAt b (j .0) in
       let i = full-facts (j .0) are-bytes o (is-full (kindAt b (j .0)) (t 10 .0)) in
@@ -174,12 +174,12 @@ module _ (b : Buffers) where
       → Leaves b (effect (MoveIn c j h) b) (c .0) (j .0) Away (full (c .0) (moved (rowFacts b (c .0))))
   unfolding effect
   move-in-leaves c j h are-bytes t =
-      let o = on-card b (j .0) (t 5 .0) (t 7 .0) (t 8 .0) (t 9 .0) in
+      let o = on-card b (j .0) _ (t 5 .0) (t 7 .0) (t 8 .0) (t 9 .0) in
       let f = moved (rowFacts b (c .0)) in
       let i = here-row (c .0) (o .head) (is-here (stateAt b (c .0)) (t 11 .0)) in
       let keys = here-keys (rowAt (b .ledger) (c .0)) (i .reads) (row-length (b .ledger) (c .0) (i .is-row)) (bytes-part (b .ledger) (24 * c .0) 24 (are-bytes .ledger)) in
       row-and-halves _ _ _ (i .is-row) o (plain-length 2) (length-titleHalf (f .cci) (f .«title_key») (c .0)) (length-ruleHalf f h (c .0)) state-plain-away
-      (full-place (c .0) (is-numbered (c .0) (t 4 .0)) f h (moved-ranges (rowFacts b (c .0)) (i .in-ranges)) (keys .0) (keys .1))
+      (full-place (c .0) (row-numbered (b .ledger) (c .0) (i .is-row)) f h (moved-ranges (rowFacts b (c .0)) (i .in-ranges)) (keys .0) (keys .1))
 
   -- a delete of a copy leaves its row
   pub delete-copy-leaves : (j : EntryNumber) (f : Fillers) → OnCard b (j .0) → kindAt b (j .0) ≡ Copy

@@ -123,12 +123,12 @@ module _ (b : Buffers) where
       let e = is-empty (stateAt b (c .0)) (t 11 .0) in
       row-here (c .0) f (in-a-state (b .ledger) (c .0) (is-ledger (b .ledger) (t 7 .0)) (a-state Empty refl e))
   done (Record c j f h) t =
-      let o = on-card b (j .0) (t 5 .0) (t 7 .0) (t 8 .0) (t 9 .0) in
+      let o = on-card b (j .0) _ (t 5 .0) (t 7 .0) (t 8 .0) (t 9 .0) in
       let e = is-empty (stateAt b (c .0)) (t 11 .0) in
       let is = in-a-state (b .ledger) (c .0) (o .head) (a-state Empty refl e) in
       and-then (row-plain (c .0) 2 (lit< tt) is) (filled (withRow (c .0) (plainRow 2) b) (j .0) (o .entry) (o .titles-long) (o .rules-long) (c .0) f h)
   done (CheckOut c j) t =
-      let o = on-card b (j .0) (t 5 .0) (t 7 .0) (t 8 .0) (t 9 .0) in
+      let o = on-card b (j .0) _ (t 5 .0) (t 7 .0) (t 8 .0) (t 9 .0) in
       let f = rowFacts b (c .0) in
       let e = is-here (stateAt b (c .0)) (t 11 .0) in
       let is = in-a-state (b .ledger) (c .0) (o .head) (a-state (Here f) refl e) in
@@ -137,27 +137,27 @@ module _ (b : Buffers) where
       (title (setPermits (c .0) p b) (j .0) (o .entry) (o .titles-long) (titleHalf (f .cci) (f .«title_key») (c .0)) (length-titleHalf (f .cci) (f .«title_key») (c .0))
       (λ x. title-bytes (f .cci) (f .«title_key») (c .0)))
   done (CheckIn j f1) t =
-      let o = on-card b (j .0) (t 5 .0) (t 7 .0) (t 8 .0) (t 9 .0) in
+      let o = on-card b (j .0) _ (t 5 .0) (t 7 .0) (t 8 .0) (t 9 .0) in
       let c = contentAt b (j .0) in
       let e = is-here (stateAt b c) (t 11 .0) in
       let is = in-a-state (b .ledger) c (o .head) (a-state (Here (rowFacts b c)) refl e) in
       let p = oneMore (rowFacts b c .permits) in
       and-then (permits-set b c p is) (title-wiped (setPermits c p b) (j .0) (o .entry) (o .titles-long) f1)
   done (MoveOut j h f) t =
-      let o = on-card b (j .0) (t 5 .0) (t 7 .0) (t 8 .0) (t 9 .0) in
+      let o = on-card b (j .0) _ (t 5 .0) (t 7 .0) (t 8 .0) (t 9 .0) in
       let c = contentAt b (j .0) in
       let e = is-away (stateAt b c) (t 11 .0) in
       let is = in-a-state (b .ledger) c (o .head) (a-state Away refl e) in
       let g = moved (factsAt b (j .0)) in
       and-then (row-here c g is) (entry-wiped (withRow c (hereRow g) b) (j .0) (o .entry) (o .titles-long) (o .rules-long) f)
   done (MoveIn c j h) t =
-      let o = on-card b (j .0) (t 5 .0) (t 7 .0) (t 8 .0) (t 9 .0) in
+      let o = on-card b (j .0) _ (t 5 .0) (t 7 .0) (t 8 .0) (t 9 .0) in
       let f = rowFacts b (c .0) in
       let e = is-here (stateAt b (c .0)) (t 11 .0) in
       let is = in-a-state (b .ledger) (c .0) (o .head) (a-state (Here f) refl e) in
       and-then (row-plain (c .0) 2 (lit< tt) is) (filled (withRow (c .0) (plainRow 2) b) (j .0) (o .entry) (o .titles-long) (o .rules-long) (c .0) (moved f) h)
   done (Delete j f) t =
-      let o = on-card b (j .0) (t 5 .0) (t 7 .0) (t 8 .0) (t 9 .0) in
+      let o = on-card b (j .0) _ (t 5 .0) (t 7 .0) (t 8 .0) (t 9 .0) in
       let c = contentAt b (j .0) in
       elim (deletes b (j .0) (t 10 .0) (t 11 .0)) [
         | a-copy k ↦ rw (ap isFull k) (title-wiped b (j .0) (o .entry) (o .titles-long) (f .f1))

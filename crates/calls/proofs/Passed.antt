@@ -9,7 +9,7 @@ use lib.ListN.{length}
 use lib.Dec.{eqb}
 use borrow.Author.Tests.{leb-true, ltb-true, eqb-false, not-false}
 use Rattle.formats.specs.Facts.{inRange}
-use Rattle.formats.specs.Head.{ledgerPasses, ledgerApplication, titlesPass, rulesPass, rulesApplication}
+use Rattle.formats.specs.Head.{ledgerPasses, titlesPass, rulesPass}
 use Rattle.formats.specs.declared.facts.Facts.{Facts}
 use Rattle.formats.specs.declared.request.Request.{Request}
 use Rattle.formats.specs.declared.entry.EntryKind.{EntryKind}
@@ -130,10 +130,10 @@ pub record OnCard (b : Buffers) (j : ℕ) : Type 0 where
   pub titles-long : length (b .titles) ≡ 16000
   pub rules-long : length (b .rules) ≡ 32000
 
-pub on-card : (b : Buffers) (j : ℕ) → not (numbered j) ≡ false → not (ledgerPasses (b .ledger)) ≡ false → not (titlesPass (b .titles)) ≡ false
-    → not (rulesPass (b .rules) && eqb (rulesApplication (b .rules)) (ledgerApplication (b .ledger))) ≡ false → OnCard b j
-on-card b j n l t r =
-    record { entry = is-numbered j n; head = is-ledger (b .ledger) l; titles-long = is-titles (b .titles) t; rules-long = is-rules (b .rules) _ r }
+pub on-card : (b : Buffers) (j : ℕ) (same : Bool) → not (numbered j) ≡ false → not (ledgerPasses (b .ledger)) ≡ false → not (titlesPass (b .titles)) ≡ false
+    → not (rulesPass (b .rules) && same) ≡ false → OnCard b j
+on-card b j same n l t r =
+    record { entry = is-numbered j n; head = is-ledger (b .ledger) l; titles-long = is-titles (b .titles) t; rules-long = is-rules (b .rules) same r }
 
 -- a delete is of a copy, or of a full entry whose row is away
 pub data Deletes (b : Buffers) (j : ℕ) : Type 0 where

@@ -5,13 +5,14 @@ use mathlib.Core.Path.{_≡_, refl, sym, ap, _∙_}
 use mathlib.Core.Logic.{_≢_, inl, inr}
 use mathlib.Core.List.{List, [], _∷_, _++_}
 use mathlib.Core.Bool.{Bool, true, false, not, _&&_, _||_, cond, true≢false}
-use lib.Dec.{eqb}
-use borrow.Author.Tests.{le-ltb, lt-ltb, le-leb, lt-leb, eq-eqb, ne-eqb, eqb-false, not-true, not-false}
+use native.Mathlib.Omega.{arith}
+use lib.Dec.{eqb, ltb}
+use borrow.Author.Tests.{le-ltb, lt-ltb, le-leb, lt-leb, eq-eqb, ne-eqb, eqb-false, not-true, not-false, ltb-true}
 use Rattle.formats.specs.declared.request.Request.{Request}
 use Rattle.formats.specs.declared.request.Request.the-variants.{Register, Record, CheckOut, CheckIn, MoveOut, MoveIn, Delete}
-use Rattle.formats.proofs.Tests.{split, one-holds}
+use Rattle.formats.proofs.Tests.{split, both, one-holds}
 use Rattle.calls.specs.Buffers.{Buffers}
-use Rattle.calls.specs.Refusal.{Condition, _when_, first, FirstToHold, NoneHolds}
+use Rattle.calls.specs.Refusal.{Condition, _when_, first, ascendingFrom, FirstToHold, NoneHolds}
 use Rattle.calls.specs.Conditions.{conditions}
 use Rattle.calls.specs.Effect.{effect}
 use Rattle.calls.specs.Perform.{refusal, perform, RefusedFirst}
@@ -141,16 +142,24 @@ unmet n ((m when b) ∷ cs) h = also (eqb m n) (b ≡ false) (Unmet n cs) (h .0)
 
 -- THE CALLS
 
--- no call has a condition 0
-pub conditions-refuse : (k : Request) (b : Buffers) → refusing (conditions k b) ≡ true
-unfolding conditions
-conditions-refuse (Register c f) b = refl
-conditions-refuse (Record c j f h) b = refl
-conditions-refuse (CheckOut c j) b = refl
-conditions-refuse (CheckIn j f1) b = refl
-conditions-refuse (MoveOut j h f) b = refl
-conditions-refuse (MoveIn c j h) b = refl
-conditions-refuse (Delete j f) b = refl
+-- their conditions go in number order
+pub conditions-ascend : (k : Request) (b : Buffers) → ascendingFrom 0 (conditions k b) ≡ true
+unfolding conditions ascendingFrom
+conditions-ascend (Register c f) b = refl
+conditions-ascend (Record c j f h) b = refl
+conditions-ascend (CheckOut c j) b = refl
+conditions-ascend (CheckIn j f1) b = refl
+conditions-ascend (MoveOut j h f) b = refl
+conditions-ascend (MoveIn c j h) b = refl
+conditions-ascend (Delete j f) b = refl
+
+-- so none has the number 0
+above-0 : (n : ℕ) (cs : List Condition) → ascendingFrom n cs ≡ true → refusing cs ≡ true
+unfolding ascendingFrom
+above-0 n [] e = refl
+above-0 n ((m when b) ∷ cs) e =
+    let (above, rest) = split (ltb n m) (ascendingFrom m cs) e in
+    both (ap not (ne-eqb m 0 (λ z. omega (arith, ltb-true n m above)))) (above-0 m cs rest)
 
 module _ (k : Request) (b : Buffers) where
   -- a call answers what the first of its conditions that holds says
@@ -174,12 +183,13 @@ module _ (k : Request) (b : Buffers) where
 
   -- done, none of its conditions holds
   pub none-holds : perform k b .answer ≡ 0 → NoneHolds (conditions k b)
-  none-holds zero = to-none (conditions k b) (conditions-refuse k b) (sym answer-first ∙ zero)
+  none-holds zero = to-none (conditions k b) (above-0 0 (conditions k b) (conditions-ascend k b)) (sym answer-first ∙ zero)
 
 -- Demand 1: a call that meets a condition gets the number of the first one and changes nothing; every other call is done.
 pub refused-first : (k : Request) (b : Buffers) → RefusedFirst k b
 refused-first k b =
     record {
+      in-number-order = conditions-ascend k b;
       refused = λ n some h. answer-first k b ∙ of-first n (conditions k b) h;
       only-refused = λ n some e. to-first n (conditions k b) some (sym (answer-first k b) ∙ e);
       unchanged = unchanged k b;

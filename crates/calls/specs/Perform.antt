@@ -3,12 +3,12 @@ use Prim.Native.Nat.{ℕ, _<_}
 use mathlib.Core.Path.{_≡_}
 use mathlib.Core.Logic.{_≢_}
 use mathlib.Core.List.{List}
-use mathlib.Core.Bool.{cond}
+use mathlib.Core.Bool.{true, cond}
 use lib.Dec.{eqb}
 use lib.ListN.{length, getD}
 use Rattle.formats.specs.declared.request.Request.{Request}
 use Rattle.calls.specs.Buffers.{Buffers}
-use Rattle.calls.specs.Refusal.{first, FirstToHold, NoneHolds}
+use Rattle.calls.specs.Refusal.{first, ascendingFrom, FirstToHold, NoneHolds}
 use Rattle.calls.specs.Conditions.{conditions}
 use Rattle.calls.specs.Effect.{effect}
 
@@ -26,6 +26,8 @@ perform k b = record { answer = refusal k b; buffers = cond (eqb (refusal k b) 0
 -- Demand 1, of one call on any buffers: "every call that meets a refusal condition .. gets that number, the first in the
 -- order .., and no byte changes. Accepted then: every other call"
 pub record RefusedFirst (k : Request) (b : Buffers) : Type 0 where
+  -- "go in number order over what it takes"
+  pub in-number-order : ascendingFrom 0 (conditions k b) ≡ true
   -- a number other than 0 is answered where its condition holds and none before it, and only there
   pub refused : (n : ℕ) → n ≢ 0 → FirstToHold n (conditions k b) → perform k b .answer ≡ n
   pub only-refused : (n : ℕ) → n ≢ 0 → perform k b .answer ≡ n → FirstToHold n (conditions k b)

@@ -3,7 +3,8 @@ use Prim.Native.Nat.{ℕ}
 use mathlib.Core.Path.{_≡_}
 use mathlib.Core.Logic.{_⊎_}
 use mathlib.Core.List.{List, [], _∷_}
-use mathlib.Core.Bool.{Bool, true, false, not, cond}
+use mathlib.Core.Bool.{Bool, true, false, not, _&&_, cond}
+use lib.Dec.{ltb}
 
 -- a condition and the number that it is refused with
 pub data Condition : Type 0 where
@@ -19,6 +20,11 @@ infix 70 _unless_
 unfoldable pub first : List Condition → ℕ
 first [] = 0
 first ((n when b) ∷ rest) = cond b n (first rest)
+
+-- "Checks of a call .. go in number order": each condition has a number above those before it, and above 0
+unfoldable pub ascendingFrom : ℕ → List Condition → Bool
+ascendingFrom n [] = true
+ascendingFrom n ((m when b) ∷ rest) = ltb n m && ascendingFrom m rest
 
 -- condition n holds, and none before it
 abbrev pub FirstToHold : ℕ → List Condition → Type 0

@@ -3,12 +3,12 @@
 use Prim.Native.Nat.{ℕ, _≤_}
 use mathlib.Core.Path.{_≡_, refl, sym, ap, _∙_}
 use mathlib.Core.List.{List, [], _∷_}
-use mathlib.Core.Bool.{Bool, true, false, not, _&&_, cond}
+use mathlib.Core.Bool.{Bool, true, false, not, cond}
 use lib.Dec.{eqb, leb}
 use borrow.Author.Tests.{le-leb, leb-true, eq-eqb, ne-eqb}
 use Rattle.formats.specs.Refusal.{unless as answer}
 use Rattle.formats.proofs.Tests.{refuted, split, both}
-use Rattle.calls.specs.Refusal.{Condition, _when_, _unless_, first}
+use Rattle.calls.specs.Refusal.{Condition, _unless_, first}
 use Rattle.calls.specs.Conditions.{numbered}
 
 -- nothing is refused at the end of the conditions

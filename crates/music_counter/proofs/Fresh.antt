@@ -1,12 +1,12 @@
 -- A buffer that is written from its front on and cleared behind that.
 -- Assumes nothing.
-use Prim.Native.Nat.{ℕ, _+_, _-_}
-use mathlib.Core.Path.{_≡_, ap, _∙_}
+use Prim.Native.Nat.{ℕ, _-_}
+use mathlib.Core.Path.{_≡_, _∙_}
 use mathlib.Core.List.{List, _++_}
 use native.Mathlib.Omega.{arith}
 use lib.ListN.{length, replicate, length-append, length-replicate}
 use borrow.Rule.Slice.PartMut.{putMid}
-use Rattle.formats.specs.Part.{part, put}
+use Rattle.formats.specs.Part.{part}
 use Rattle.formats.proofs.Part.{part-length, put-whole, back}
 use Rattle.formats.proofs.Writes.{Wrote, wrote-size, wrote-next}
 

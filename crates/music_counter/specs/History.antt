@@ -3,7 +3,6 @@ use Prim.Native.Nat.{ℕ}
 use mathlib.Core.Path.{_≡_}
 use mathlib.Core.List.{List, []}
 use Rattle.formats.specs.declared.request.Request.{Request}
-use Rattle.calls.specs.Buffers.{Buffers}
 use Rattle.calls.specs.History.{Run, run, After}
 use Rattle.music_counter.specs.Format.{ledgerFormatting, formattedLedger, cardFormatting, formattedTitles, formattedRules}
 

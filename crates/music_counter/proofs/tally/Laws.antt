@@ -1,6 +1,6 @@
 -- What a tally answers, by the first check that fails.
 -- Assumes nothing.
-use Prim.Native.Nat.{ℕ, _≤_}
+use Prim.Native.Nat.{ℕ}
 use mathlib.Core.Path.{_≡_, refl, sym, ap, _∙_}
 use mathlib.Core.List.{List, [], _∷_}
 use mathlib.Core.Bool.{true}
@@ -9,7 +9,7 @@ use Rattle.formats.specs.Head.{titlesPass, titlesAnswer, rulesPass, rulesAnswer
 use Rattle.formats.proofs.Tests.{passed}
 use Rattle.calls.specs.Buffers.{copies}
 use Rattle.calls.specs.Conditions.{numbered}
-use Rattle.music_counter.specs.Tally.{tallyConditions, tallyRefusal, talliedValues}
+use Rattle.music_counter.specs.Tally.{tallyRefusal, talliedValues}
 use Rattle.music_counter.proofs.First.{hit, skip, end, refused, kept, changed}
 
 -- a check of the title table that answers 0 has passed
