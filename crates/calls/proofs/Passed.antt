@@ -1,13 +1,13 @@
 -- What it says that a condition of a call does not hold.
 -- Assumes nothing.
-use Prim.Native.Nat.{ℕ, _<_, _^_}
+use Prim.Native.Nat.{ℕ, _≤_, _<_, _^_}
 use mathlib.Core.Path.{_≡_, refl, sym, ap, _∙_}
 use mathlib.Core.Logic.{_≢_}
 use mathlib.Core.List.{List, _++_}
 use mathlib.Core.Bool.{Bool, true, false, not, _&&_, _||_, true≢false}
 use lib.ListN.{length}
 use lib.Dec.{eqb}
-use borrow.Author.Tests.{leb-true, ltb-true, eqb-false, not-false}
+use borrow.Author.Tests.{le-leb, leb-true, ltb-true, eqb-false, not-false}
 use Rattle.formats.specs.Facts.{inRange}
 use Rattle.formats.specs.Head.{ledgerPasses, titlesPass, rulesPass}
 use Rattle.formats.specs.declared.facts.Facts.{Facts}
@@ -16,7 +16,7 @@ use Rattle.formats.specs.declared.entry.EntryKind.{EntryKind}
 use Rattle.formats.specs.declared.entry.EntryKind.the-variants.{Free, Copy, Full, Torn}
 use Rattle.formats.specs.declared.row.RowState.{RowState}
 use Rattle.formats.specs.declared.row.RowState.the-variants.{Empty, Here, Away, Gone, NoState}
-use Rattle.formats.proofs.Tests.{split}
+use Rattle.formats.proofs.Tests.{split, both}
 use Rattle.formats.proofs.facts.Laws.{Ranges, ranges}
 use Rattle.formats.proofs.head.Laws.{LedgerHead, ledger-head, titles-length, rules-length}
 use Rattle.calls.specs.Buffers.{Buffers, stateAt, hereFacts, kindAt, contentAt, isFree, isCopy, isFull, isEmpty, isHere, isAway}
@@ -25,11 +25,18 @@ use Rattle.calls.specs.Perform.{perform}
 use Rattle.calls.proofs.Refusals.{none-holds, Unmet, unmet}
 use Rattle.calls.proofs.History.Totals.{Within}
 
+-- the test of 1 to 999
+pub numbered-within : (v : ℕ) → numbered v ≡ true → Within 999 v
+numbered-within v e =
+    let (p, q) = split _ _ e in
+    record { from = leb-true _ _ p; to = leb-true _ _ q }
+
+pub within-numbered : (v : ℕ) → 1 ≤ v → v ≤ 999 → numbered v ≡ true
+within-numbered v low high = both (le-leb 1 v low) (le-leb v 999 high)
+
 -- 4 and 5: the number is 1 to 999
 pub is-numbered : (v : ℕ) → not (numbered v) ≡ false → Within 999 v
-is-numbered v e =
-    let (p, q) = split _ _ (not-false _ e) in
-    record { from = leb-true _ _ p; to = leb-true _ _ q }
+is-numbered v e = numbered-within v (not-false _ e)
 
 -- 6: the facts are in their ranges
 pub record Granted (f : Facts) : Type 0 where

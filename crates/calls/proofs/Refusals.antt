@@ -7,12 +7,13 @@ use mathlib.Core.List.{List, [], _∷_, _++_}
 use mathlib.Core.Bool.{Bool, true, false, not, _&&_, _||_, cond, true≢false}
 use native.Mathlib.Omega.{arith}
 use lib.Dec.{eqb, ltb}
-use borrow.Author.Tests.{le-ltb, lt-ltb, le-leb, lt-leb, eq-eqb, ne-eqb, eqb-false, not-true, not-false, ltb-true}
+use borrow.Author.Tests.{eq-eqb, ne-eqb, eqb-false, not-true, ltb-true}
 use Rattle.formats.specs.declared.request.Request.{Request}
 use Rattle.formats.specs.declared.request.Request.the-variants.{Register, Record, CheckOut, CheckIn, MoveOut, MoveIn, Delete}
-use Rattle.formats.proofs.Tests.{split, both, one-holds}
+use Rattle.formats.specs.Refusal.{unless as answer}
+use Rattle.formats.proofs.Tests.{split, both, one-holds, refuted}
 use Rattle.calls.specs.Buffers.{Buffers}
-use Rattle.calls.specs.Refusal.{Condition, _when_, first, ascendingFrom, FirstToHold, NoneHolds}
+use Rattle.calls.specs.Refusal.{Condition, _when_, _unless_, first, ascendingFrom, FirstToHold, NoneHolds}
 use Rattle.calls.specs.Conditions.{conditions}
 use Rattle.calls.specs.Effect.{effect}
 use Rattle.calls.specs.Perform.{refusal, perform, RefusedFirst}
@@ -52,8 +53,27 @@ holds-not e = ap not e
 pub fails-so : {b : Bool} → b ≡ false → not b ≡ true
 fails-so e = ap not e
 
--- for `search`: an answer from the tests that led to it
-pub ruleset firsts = (hit, skip, end, holds-not, fails-so, not-true, not-false, lt-ltb, le-ltb, le-leb, lt-leb, eq-eqb, ne-eqb)
+-- the same of a test whose failing is the condition: it cannot hold, or it holds
+module _ (n : ℕ) (b : Bool) (rest : List Condition) where
+  pub fails : (b ≡ true → ⊥) → n ≡ first (n unless b ∷ rest)
+  fails h = hit n (not b) rest (fails-so (refuted h))
+
+  pub holds : {m : ℕ} → b ≡ true → m ≡ first rest → m ≡ first (n unless b ∷ rest)
+  holds {m} e = skip n m (not b) rest (holds-not e)
+
+-- a check that has answered its number refuses with it
+pub answers : (n : ℕ) (b : Bool) (rest : List Condition) {w : ℕ} → w ≡ answer b n → (w ≡ 0 → ⊥) → w ≡ first (n unless b ∷ rest)
+unfolding first
+answers n true rest e h = absurd (h e)
+answers n false rest e h = e
+
+-- what an answer makes of a buffer: refused, it is the old one, and done, the new one
+module _ {n answer : ℕ} (made old : List ℕ) (e : n ≡ answer) where
+  pub kept : (n ≡ 0 → ⊥) → old ≡ cond (eqb answer 0) made old
+  kept h = sym (ap (λ (x : Bool). cond x made old) (ne-eqb answer 0 (λ z. h (e ∙ z))))
+
+  pub changed : n ≡ 0 → made ≡ cond (eqb answer 0) made old
+  changed z = sym (ap (λ (x : Bool). cond x made old) (eq-eqb answer 0 (sym e ∙ z)))
 
 -- IN STAGES
 

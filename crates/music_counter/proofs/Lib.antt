@@ -1,4 +1,3 @@
-pub mod First
 pub mod Fresh
 pub mod Counting
 pub mod History

@@ -10,7 +10,7 @@ use Rattle.formats.proofs.Tests.{passed}
 use Rattle.calls.specs.Buffers.{copies}
 use Rattle.calls.specs.Conditions.{numbered}
 use Rattle.music_counter.specs.Tally.{tallyRefusal, talliedValues}
-use Rattle.music_counter.proofs.First.{hit, skip, end, refused, kept, changed}
+use Rattle.calls.proofs.Refusals.{fails, holds, end, answers, kept, changed}
 
 -- a check of the title table that answers 0 has passed
 pub titles-passed : (t : List ℕ) {w : ℕ} → w ≡ titlesAnswer t → w ≡ 0 → titlesPass t ≡ true
@@ -29,23 +29,23 @@ module _ (t r : List ℕ) (c : ℕ) where
   -- the content ID is not 1 to 999
   pub content-refused : (numbered c ≡ true → ⊥) → (4 ≡ tallyRefusal t r c) × ([] ≡ talliedValues t r c)
   unfolding tallyRefusal
-  content-refused h = by (hit 4 (numbered c) _ h) (λ z. omega arith)
+  content-refused h = by (fails 4 (numbered c) _ h) (λ z. omega arith)
 
   module _ (in-range : numbered c ≡ true) where
     -- the title table's length or head is wrong
     pub titles-refused : {w : ℕ} → w ≡ titlesAnswer t → (w ≡ 0 → ⊥) → (w ≡ tallyRefusal t r c) × ([] ≡ talliedValues t r c)
     unfolding tallyRefusal
-    titles-refused e h = by (skip 4 (numbered c) _ in-range (refused 8 (titlesPass t) _ e h)) h
+    titles-refused e h = by (holds 4 (numbered c) _ in-range (answers 8 (titlesPass t) _ e h)) h
 
     module _ (titles-pass : titlesPass t ≡ true) where
       -- the rule table's length or head is wrong
       pub rules-refused : {w : ℕ} → w ≡ rulesAnswer r → (w ≡ 0 → ⊥) → (w ≡ tallyRefusal t r c) × ([] ≡ talliedValues t r c)
       unfolding tallyRefusal
-      rules-refused e h = by (skip 4 (numbered c) _ in-range (skip 8 (titlesPass t) _ titles-pass (refused 9 (rulesPass r) _ e h))) h
+      rules-refused e h = by (holds 4 (numbered c) _ in-range (holds 8 (titlesPass t) _ titles-pass (answers 9 (rulesPass r) _ e h))) h
 
       -- nothing refuses
       pub tallied : {n : ℕ} → rulesPass r ≡ true → n ≡ copies c t r → (0 ≡ tallyRefusal t r c) × (n ∷ [] ≡ talliedValues t r c)
       unfolding tallyRefusal talliedValues
       tallied rules-pass e =
-          let z = skip 4 (numbered c) _ in-range (skip 8 (titlesPass t) _ titles-pass (skip 9 (rulesPass r) _ rules-pass end)) in
+          let z = holds 4 (numbered c) _ in-range (holds 8 (titlesPass t) _ titles-pass (holds 9 (rulesPass r) _ rules-pass end)) in
           (z, ap (λ (k : ℕ). k ∷ []) e ∙ changed (copies c t r ∷ []) [] z refl)

@@ -5,7 +5,7 @@ use native.Mathlib.Omega.{arith}
 use borrow.Author.Tests.{eq-eqb, eqb-true}
 use Rattle.formats.specs.Head.{freshTitles, freshRules}
 use Rattle.music_counter.specs.Format.{cardFormatting, formattedTitles, formattedRules}
-use Rattle.music_counter.proofs.First.{hit, skip, end, kept, changed}
+use Rattle.calls.proofs.Refusals.{fails, holds, end, kept, changed}
 use borrow.Author.Needs.{needs}
 use Rattle.music_counter.proofs.format.format_card.Statement.{statement}
 use Rattle.music_counter.proofs.format.format_card.Tie as tie
@@ -13,13 +13,13 @@ use Rattle.music_counter.proofs.format.format_card.Tie as tie
 returns : tie.Need-returns
 unfolding cardFormatting formattedTitles formattedRules
 returns c =
-    let e = hit 8 _ _ (λ t. c .if1 .taken (eqb-true _ _ t)) in
+    let e = fails 8 _ _ (λ t. c .if1 .taken (eqb-true _ _ t)) in
     (e, (kept _ _ e (λ z. omega arith), kept _ _ e (λ z. omega arith)))
 
 returns-2 : tie.Need-returns-2
 unfolding cardFormatting formattedTitles formattedRules
 returns-2 c =
-    let e = skip 8 _ _ (eq-eqb _ _ (c .before .if1 .left)) (hit 9 _ _ (λ t. c .if2 .taken (eqb-true _ _ t))) in
+    let e = holds 8 _ _ (eq-eqb _ _ (c .before .if1 .left)) (fails 9 _ _ (λ t. c .if2 .taken (eqb-true _ _ t))) in
     (e, (kept _ _ e (λ z. omega arith), kept _ _ e (λ z. omega arith)))
 
 fresh-table-requires : tie.Need-fresh-table-requires
@@ -39,7 +39,7 @@ unfolding cardFormatting formattedTitles formattedRules freshTitles freshRules
 returns-3 c =
     let titles = c .before .before .before .before .before .before .before .before .before .if1 .left in
     let rules = c .before .before .before .before .before .before .before .before .if2 .left in
-    let e = skip 8 _ _ (eq-eqb _ _ titles) (skip 9 _ _ (eq-eqb _ _ rules) end) in
+    let e = holds 8 _ _ (eq-eqb _ _ titles) (holds 9 _ _ (eq-eqb _ _ rules) end) in
     (e, (rw titles at (c .before .before .before .before .before .before .fresh-table .ensures) ∙ changed _ _ e refl, rw rules at (c .before .before .fresh-table2 .ensures) ∙ changed _ _ e refl))
 
 pub format-card-spec : {M : Type 1} → statement M

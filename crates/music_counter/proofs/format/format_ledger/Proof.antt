@@ -10,7 +10,8 @@ use Rattle.formats.specs.Field.{bytesOf}
 use Rattle.formats.specs.Head.{freshLedger}
 use Rattle.formats.proofs.Writes.{wrote-start, wrote-field}
 use Rattle.music_counter.specs.Format.{ledgerFormatting, formattedLedger}
-use Rattle.music_counter.proofs.First.{hit, skip, end, kept, changed, is-numbered, numbered-range}
+use Rattle.calls.proofs.Refusals.{fails, holds, end, kept, changed}
+use Rattle.calls.proofs.Passed.{numbered-within, within-numbered}
 use Rattle.music_counter.proofs.Fresh.{cleared-behind}
 use borrow.Author.Needs.{needs}
 use Rattle.music_counter.proofs.format.format_ledger.Statement.{statement}
@@ -20,14 +21,14 @@ returns : tie.Need-returns
 unfolding ledgerFormatting formattedLedger
 returns c =
     let rows = c .before .before .args .rows in
-    let e = hit 4 _ _ (λ t. let r = numbered-range rows t in omega arith) in
+    let e = fails 4 _ _ (λ t. let r = numbered-within rows t in omega (arith, r .from, r .to)) in
     (e, kept _ _ e (λ z. omega arith))
 
 returns-2 : tie.Need-returns-2
 unfolding ledgerFormatting formattedLedger
 returns-2 c =
     let rows = c .before .before .before .args .rows in
-    let e = hit 4 _ _ (λ t. let r = numbered-range rows t in omega arith) in
+    let e = fails 4 _ _ (λ t. let r = numbered-within rows t in omega (arith, r .from, r .to)) in
     (e, kept _ _ e (λ z. omega arith))
 
 add-if3 : tie.Need-add-if3
@@ -40,7 +41,7 @@ returns-3 : tie.Need-returns-3
 unfolding ledgerFormatting formattedLedger
 returns-3 c =
     let rows = c .before .before .before .before .args .rows in
-    let e = skip 4 _ _ (is-numbered rows (omega arith) (omega arith)) (hit 7 _ _ (λ t. c .if3 .taken (eqb-true _ _ t))) in
+    let e = holds 4 _ _ (within-numbered rows (omega arith) (omega arith)) (fails 7 _ _ (λ t. c .if3 .taken (eqb-true _ _ t))) in
     (e, kept _ _ e (λ z. omega arith))
 
 sub-write : tie.Need-sub-write
@@ -88,7 +89,7 @@ returns-4 c =
     let a = c .before .before .before .before .before .before .before .before .before .before .before .before .before .before .before .before .args in
     let before = now (a .ledger) in
     let size : length before ≡ 24 * (a .rows + 1) = omega arith in
-    let e = skip 4 _ _ (is-numbered (a .rows) (omega arith) (omega arith)) (skip 7 _ _ (eq-eqb _ _ size) end) in
+    let e = holds 4 _ _ (within-numbered (a .rows) (omega arith) (omega arith)) (holds 7 _ _ (eq-eqb _ _ size) end) in
     let w = wrote-field 2 (a .application) (wrote-start 0 before (omega arith)) (omega arith) (c .before .before .before .before .before .before .before .before .before .before .write .ensures) in
     let v = wrote-field 2 (a .rows) w (omega arith) (c .before .before .before .before .before .before .write2 .ensures) in
     let n : length before - 4 ≡ 20 + 24 * a .rows = omega arith in

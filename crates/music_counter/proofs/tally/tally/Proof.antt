@@ -3,7 +3,7 @@
 use native.Mathlib.Omega.{arith}
 use borrow.Author.Needs.{needs}
 use Rattle.formats.proofs.head.Laws.{titles-length, rules-length}
-use Rattle.music_counter.proofs.First.{is-numbered, numbered-range}
+use Rattle.calls.proofs.Passed.{numbered-within, within-numbered}
 use Rattle.music_counter.proofs.tally.Laws.{titles-passed, rules-passed, content-refused, titles-refused, rules-refused, tallied}
 use Rattle.music_counter.proofs.tally.tally.Statement.{statement}
 use Rattle.music_counter.proofs.tally.tally.Tie as tie
@@ -11,12 +11,12 @@ use Rattle.music_counter.proofs.tally.tally.Tie as tie
 returns : tie.Need-returns
 returns c =
     let id = c .before .before .before .args .content .0 in
-    content-refused _ _ _ (λ t. let r = numbered-range id t in omega arith)
+    content-refused _ _ _ (λ t. let r = numbered-within id t in omega (arith, r .from, r .to))
 
 returns-2 : tie.Need-returns-2
 returns-2 c =
     let id = c .before .before .before .before .args .content .0 in
-    content-refused _ _ _ (λ t. let r = numbered-range id t in omega arith)
+    content-refused _ _ _ (λ t. let r = numbered-within id t in omega (arith, r .from, r .to))
 
 check-titles-requires : tie.Need-check-titles-requires
 check-titles-requires c κs = search needs
@@ -24,7 +24,7 @@ check-titles-requires c κs = search needs
 returns-3 : tie.Need-returns-3
 returns-3 c =
     let id = c .before .before .before .before .before .before .args .content .0 in
-    titles-refused _ _ _ (is-numbered id (omega arith) (omega arith)) (c .before .check-titles .ensures) (c .if3 .taken)
+    titles-refused _ _ _ (within-numbered id (omega arith) (omega arith)) (c .before .check-titles .ensures) (c .if3 .taken)
 
 check-rules-requires : tie.Need-check-rules-requires
 check-rules-requires c κs = search needs
@@ -33,7 +33,7 @@ returns-4 : tie.Need-returns-4
 returns-4 c =
     let x = c .before .before in
     let id = x .before .before .before .before .before .before .args .content .0 in
-    rules-refused _ _ _ (is-numbered id (omega arith) (omega arith)) (titles-passed _ (x .before .check-titles .ensures) (x .if3 .left))
+    rules-refused _ _ _ (within-numbered id (omega arith) (omega arith)) (titles-passed _ (x .before .check-titles .ensures) (x .if3 .left))
     (c .before .check-rules .ensures) (c .if4 .taken)
 
 count-requires : tie.Need-count-requires
@@ -46,7 +46,7 @@ returns-5 c =
     let y = c .before in
     let x = y .before .before in
     let id = x .before .before .before .before .before .before .args .content .0 in
-    tallied _ _ _ (is-numbered id (omega arith) (omega arith)) (titles-passed _ (x .before .check-titles .ensures) (x .if3 .left))
+    tallied _ _ _ (within-numbered id (omega arith) (omega arith)) (titles-passed _ (x .before .check-titles .ensures) (x .if3 .left))
     (rules-passed _ (y .before .check-rules .ensures) (y .if4 .left)) (c .count .ensures)
 
 pub tally-spec : {M : Type 1} → statement M
