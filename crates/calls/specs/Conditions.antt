@@ -35,8 +35,10 @@ arguments (Delete j f) = 5 unless numbered (j .0) ∷ []
 -- than the ledger's included
 abbrev pub allHeads : Buffers → List Condition
 allHeads b =
-    7 unless ledgerPasses (b .ledger) ∷ 8 unless titlesPass (b .titles)
-    ∷ 9 unless (rulesPass (b .rules) && eqb (rulesApplication (b .rules)) (ledgerApplication (b .ledger))) ∷ []
+    7 unless ledgerPasses (b .ledger)
+    ∷ 8 unless titlesPass (b .titles)
+    ∷ 9 unless (rulesPass (b .rules) && eqb (rulesApplication (b .rules)) (ledgerApplication (b .ledger)))
+    ∷ []
 
 -- "Register is lent the ledger only."
 abbrev pub heads : Request → Buffers → List Condition
@@ -61,20 +63,37 @@ leavesKey filler half = eqb (filler % 2 ^ 56) (keyOf half)
 -- C_HASH; 14 move in: a copy of c on the card; 15 check-in: permits are 14; 16 f1 leaves the title key, or (full entries)
 -- f2 the STI key
 abbrev pub state : Request → Buffers → List Condition
-state (Register c f) b = 11 unless isEmpty (stateAt b (c .0)) ∷ []
-state (Record c j f h) b = 10 unless isFree (kindAt b (j .0)) ∷ 11 unless isEmpty (stateAt b (c .0)) ∷ []
+state (Register c f) b =
+    11 unless isEmpty (stateAt b (c .0))
+    ∷ []
+state (Record c j f h) b =
+    10 unless isFree (kindAt b (j .0))
+    ∷ 11 unless isEmpty (stateAt b (c .0))
+    ∷ []
 state (CheckOut c j) b =
-    10 unless isFree (kindAt b (j .0)) ∷ 11 unless isHere (stateAt b (c .0)) ∷ 12 when eqb (rowFacts b (c .0) .permits) 0 ∷ []
+    10 unless isFree (kindAt b (j .0))
+    ∷ 11 unless isHere (stateAt b (c .0))
+    ∷ 12 when eqb (rowFacts b (c .0) .permits) 0
+    ∷ []
 state (CheckIn j f1) b =
-    10 unless isCopy (kindAt b (j .0)) ∷ 11 unless isHere (stateAt b (contentAt b (j .0)))
-    ∷ 15 when eqb (rowFacts b (contentAt b (j .0)) .permits) 14 ∷ 16 when leavesKey f1 (titleAt (b .titles) (j .0)) ∷ []
+    10 unless isCopy (kindAt b (j .0))
+    ∷ 11 unless isHere (stateAt b (contentAt b (j .0)))
+    ∷ 15 when eqb (rowFacts b (contentAt b (j .0)) .permits) 14
+    ∷ 16 when leavesKey f1 (titleAt (b .titles) (j .0))
+    ∷ []
 state (MoveOut j h f) b =
-    10 unless isFull (kindAt b (j .0)) ∷ 11 unless isAway (stateAt b (contentAt b (j .0)))
-    ∷ 12 when mayNotMove (factsAt b (j .0)) ∷ 13 unless eqb h (hashOf (ruleAt (b .rules) (j .0)))
-    ∷ 16 when (leavesKey (f .f1) (titleAt (b .titles) (j .0)) || leavesKey (f .f2) (ruleAt (b .rules) (j .0))) ∷ []
+    10 unless isFull (kindAt b (j .0))
+    ∷ 11 unless isAway (stateAt b (contentAt b (j .0)))
+    ∷ 12 when mayNotMove (factsAt b (j .0))
+    ∷ 13 unless eqb h (hashOf (ruleAt (b .rules) (j .0)))
+    ∷ 16 when (leavesKey (f .f1) (titleAt (b .titles) (j .0)) || leavesKey (f .f2) (ruleAt (b .rules) (j .0)))
+    ∷ []
 state (MoveIn c j h) b =
-    10 unless isFree (kindAt b (j .0)) ∷ 11 unless isHere (stateAt b (c .0)) ∷ 12 when mayNotMove (rowFacts b (c .0))
-    ∷ 14 unless eqb (copies (c .0) (b .titles) (b .rules)) 0 ∷ []
+    10 unless isFree (kindAt b (j .0))
+    ∷ 11 unless isHere (stateAt b (c .0))
+    ∷ 12 when mayNotMove (rowFacts b (c .0))
+    ∷ 14 unless eqb (copies (c .0) (b .titles) (b .rules)) 0
+    ∷ []
 state (Delete j f) b =
     10 unless (isCopy (kindAt b (j .0)) || isFull (kindAt b (j .0)))
     ∷ 11 when (isFull (kindAt b (j .0)) && not (isAway (stateAt b (contentAt b (j .0)))))
