@@ -1,5 +1,5 @@
-// Runs the cases of standard input, one a line, on the functions of `formats`, and prints each line with ` -> ` and the
-// answer. A line whose word is not known, or whose tokens do not fit, is answered `?`.
+// Runs the cases of standard input, one a line, on the functions of `formats` and `music_counter`, and prints each line with
+// ` -> ` and the answer. A line whose word is not known, or whose tokens do not fit, is answered `?`.
 //
 // A line is a word and then tokens, with single spaces between. A token is hexadecimal with two digits a byte, `-` for no
 // bytes: a byte string, or a number in at most 8 bytes, the most significant first. The words and their tokens:
@@ -27,9 +27,14 @@
 //   row-write-here     CCI, trigger, rights, permits, title key, STI key
 //   row-write-plain    state
 //   row-write-permits  permits
+//   format-ledger      R, application number, length of the ledger
+//   format-card        application number, lengths of the title table and of the rule table
+//   tally              title head, rule head, title half, rule half, content ID, first and last entry of the title half,
+//                      first and last entry of the rule half, lengths of the title table and of the rule table
 //
 // Arguments that a kind does not have are `-`. A table is its head and zeros, cut to its length. What is written goes over
-// bytes EE (half-write: FF).
+// bytes EE (half-write: FF). Entry numbers are taken modulo 1,000.
+mod cards;
 mod halves;
 mod lines;
 mod numbers;
@@ -86,7 +91,8 @@ fn answer(line: &[u8], s: &[u8]) {
         b"number-len 01 number-write 02 number-read 10 request-len 0a request-write 0b request-read 10 \
           title-write 03 title-read 10 title-wipe 11 half-write 03 rule-write 08 rule-read 10 rule-wipe 14 entry-kind 20 \
           check-ledger 11 check-titles 11 check-rules 12 head-ledger 10 head-rules 10 \
-          row-state 10 row-write-here 06 row-write-plain 01 row-write-permits 01",
+          row-state 10 row-write-here 06 row-write-plain 01 row-write-permits 01 \
+          format-ledger 03 format-card 03 tally 47",
     ) {
         0 => numbers::len(line),
         1 => numbers::write(line),
@@ -111,6 +117,9 @@ fn answer(line: &[u8], s: &[u8]) {
         20 => tables::write(tables::HERE, line),
         21 => tables::write(tables::PLAIN, line),
         22 => tables::write(tables::PERMITS, line),
+        23 => cards::format_ledger(line),
+        24 => cards::format_card(line),
+        25 => cards::copies(line),
         _ => print::unknown(),
     }
 }
