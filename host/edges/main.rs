@@ -79,6 +79,8 @@ fn main() {
     entries();
     heads();
     rows();
+    formatting();
+    tallies();
 }
 
 const FILL: u8 = 0xee;
@@ -833,4 +835,231 @@ fn rows() {
         s[4] = permits;
         Case::new("row-write-permits").of(permits.into()).bytes("bytes", &s).end();
     }
+}
+
+// ---------------------------------------------------------------- formatting
+
+// The buffers that are formatted: more bytes than any table has.
+const ROOM: usize = 32001;
+
+// What is printed of a buffer: its first 32 bytes, and how many of all its bytes are 0 and how many are EE.
+fn shown(case: Case, name: &str, s: &[u8]) -> Case {
+    let count = |x: u8| s.iter().filter(|b| **b == x).count() as u64;
+    case.bytes(name, &s[..32]).number("zeros", count(0)).number("kept", count(FILL))
+}
+
+// A formatting: `good` is what is written over the front of the buffer where nothing refuses.
+fn formatted(good: &[u8], refusal: u64) -> Vec<u8> {
+    let mut out = vec![FILL; ROOM];
+    if refusal == 0 {
+        out[..good.len()].copy_from_slice(good);
+    }
+    out
+}
+
+fn format_ledger(rows: u64, application: u64, length: usize) {
+    let refusal = match rows {
+        1..=999 if length as u64 == 24 * (rows + 1) => 0,
+        1..=999 => 7,
+        _ => 4,
+    };
+    let mut good = vec![0; length.max(4)];
+    good[..2].copy_from_slice(&two(application));
+    good[2..4].copy_from_slice(&two(rows));
+    let case = Case::new("format-ledger").of(rows).of(application).of(length as u64);
+    shown(case.number("answer", refusal), "ledger", &formatted(&good, refusal)).end();
+}
+
+fn format_card(application: u64, titles: usize, rules: usize) {
+    let refusal = match (titles, rules) {
+        (16000, 32000) => 0,
+        (16000, _) => 9,
+        _ => 8,
+    };
+    let mut good = fresh_rules(32000);
+    good[8..10].copy_from_slice(&two(application));
+    let case = Case::new("format-card").of_all(&[application, titles as u64, rules as u64], 3);
+    let case = shown(case.number("answer", refusal), "titles", &formatted(&fresh_titles(16000), refusal));
+    shown(case, "rules", &formatted(&good, refusal)).end();
+}
+
+fn formatting() {
+    for rows in [1, 2, 64, 255, 256, 998, 999] {
+        let exact = 24 * (rows as usize + 1);
+        for length in [exact, exact - 1, exact + 1, exact - 24, exact + 24, 24, 0] {
+            format_ledger(rows, APPLICATION, length);
+        }
+    }
+    for application in [0, 1, 0x00ff, 0xff00, 0xeeee, 0xffff] {
+        format_ledger(2, application, 72);
+        format_card(application, 16000, 32000);
+    }
+    // R out of range, with the length that it asks for, also where R + 1 or 24 times that is past 64 bits or R past 16.
+    for (rows, length) in [(0, 24), (0, 0), (1000, 24024), (1000, 24000), (65535, 24), (65536 + 2, 72), (1 << 32, 24)] {
+        format_ledger(rows, 0, length);
+    }
+    for (rows, length) in [((1 << 61) + 1, 48), (u64::MAX, 0), (u64::MAX, 24)] {
+        format_ledger(rows, 0, length);
+    }
+    for titles in [0, 1, 16, 15999, 16001, 32000] {
+        format_card(APPLICATION, titles, 32000);
+        format_card(APPLICATION, titles, 16000);
+    }
+    for rules in [0, 1, 32, 16000, 31999, 32001] {
+        format_card(APPLICATION, 16000, rules);
+    }
+}
+
+// ---------------------------------------------------------------- tallies
+
+// A card: two heads, and halves that stand at entries from a first to a last.
+#[derive(Clone)]
+struct Card {
+    title_head: Vec<u8>,
+    rule_head: Vec<u8>,
+    title: Vec<u8>,
+    rule: Vec<u8>,
+    titles: (u64, u64),
+    rules: (u64, u64),
+    titles_length: usize,
+    rules_length: usize,
+}
+
+// The bytes of a table.
+fn filled(head: &[u8], half: &[u8], (first, last): (u64, u64), length: usize) -> Vec<u8> {
+    let mut out = vec![0; ROOM];
+    out[..head.len()].copy_from_slice(head);
+    for j in first..=last {
+        let at = half.len() * j as usize;
+        out[at..at + half.len()].copy_from_slice(half);
+    }
+    out.truncate(length);
+    out
+}
+
+fn tally(content: u64, card: &Card) {
+    let titles = filled(&card.title_head, &card.title, card.titles, card.titles_length);
+    let rules = filled(&card.rule_head, &card.rule, card.rules, card.rules_length);
+    let case = Case::new("tally")
+        .with(&card.title_head)
+        .with(&card.rule_head)
+        .with(&card.title)
+        .with(&card.rule)
+        .of_all(&[content, card.titles.0, card.titles.1, card.rules.0, card.rules.1], 5)
+        .of_all(&[card.titles_length as u64, card.rules_length as u64], 2);
+    let refusals = [fault(Content, content), titles_check(&titles), rules_check(&rules)];
+    match refusals.into_iter().find(|w| *w != 0) {
+        Some(w) => case.number("refused", w).end(),
+        None => {
+            let entries = titles.chunks(16).zip(rules.chunks(32)).skip(1);
+            let copies = entries.filter(|(t, r)| entry_kind(t, r) == 1 && Half::read(t).id == content);
+            case.number("copies", copies.count() as u64).end()
+        }
+    }
+}
+
+// A rule half that has these two and zeros.
+fn bare_rule(flag: u64, id: u64) -> Vec<u8> {
+    let mut out = Half { first: 0, key: STI, flag, id }.form().to_vec();
+    out.extend([0; 16]);
+    out
+}
+
+// No copy on it: its halves stand nowhere.
+fn empty_card() -> Card {
+    Card {
+        title_head: fresh_titles(16),
+        rule_head: fresh_rules(32),
+        title: title_form(2, KEY, 4),
+        rule: bare_rule(1, 4),
+        titles: (1, 0),
+        rules: (1, 0),
+        titles_length: 16000,
+        rules_length: 32000,
+    }
+}
+
+fn tallies() {
+    let base = empty_card();
+    for titles in [(1, 0), (1, 1), (999, 999), (1, 999), (2, 998), (300, 555)] {
+        for rules in [(1, 0), (1, 1), (999, 999), (1, 999), (400, 700)] {
+            tally(4, &Card { titles, rules, ..base.clone() });
+        }
+    }
+    // The content ID: its ends, past them, another one, and one that is the same in its low ten bits.
+    for id in [1, 4, 998, 999] {
+        let card = Card { title: title_form(3, KEY, id), titles: (7, 9), ..base.clone() };
+        for content in [0, 1, 4, 5, 998, 999, 1000, 1023, 1024 + id, (1 << 32) + id, u64::MAX] {
+            tally(content, &card);
+        }
+    }
+    kinds(&base);
+    table_heads(&base);
+    lengths(&base);
+}
+
+// Entries 3 to 11 with a title half, a rule half or both.
+fn kinds(base: &Card) {
+    for title_flag in 0..2 {
+        for title_id in [0, 4, 5, 1000] {
+            for cci in [1, 2] {
+                for (rule_flag, rule_id) in [(0, 0), (0, 4), (1, 0), (1, 4), (1, 5), (1, 1000)] {
+                    let title = Half { first: cci, key: KEY, flag: title_flag, id: title_id }.form().to_vec();
+                    let rule = bare_rule(rule_flag, rule_id);
+                    tally(4, &Card { title, rule, titles: (3, 9), rules: (5, 11), ..base.clone() });
+                }
+            }
+        }
+    }
+    // A copy with every reserved bit set, the same wiped, and one that was wiped after its writing.
+    let mut full_bits = vec![0xff; 16];
+    full_bits[0] = 0xfe;
+    full_bits[15] = 0x04;
+    full_bits[14] = 0xfc;
+    let stale = wiped_title(&base.title);
+    for title in [full_bits.clone(), wiped_title(&full_bits), stale] {
+        tally(4, &Card { title, titles: (3, 9), ..base.clone() });
+    }
+    // An ID above 999 has no tally, whatever stands on the card.
+    tally(1000, &Card { title: title_form(2, KEY, 1000), titles: (3, 9), ..base.clone() });
+    tally(0, &Card { title: title_form(2, KEY, 0), titles: (3, 9), ..base.clone() });
+}
+
+// Each byte of a head one more, versions and application numbers.
+fn table_heads(base: &Card) {
+    let card = Card { titles: (5, 6), ..base.clone() };
+    for i in 0..16 {
+        let mut changed = card.clone();
+        changed.title_head[i] += 1;
+        tally(4, &changed);
+    }
+    for i in 0..32 {
+        let mut changed = card.clone();
+        changed.rule_head[i] = ((u16::from(changed.rule_head[i]) + 1) % 256) as u8;
+        tally(4, &changed);
+    }
+    for (titles, rules) in [(0x09, 0x11), (0x10, 0x12), (0x10, 0xff), (0x10, 0x10), (0x08, 0x11), (0x0f, 0x11), (0x11, 0x10)] {
+        let mut changed = card.clone();
+        changed.title_head[3] = titles;
+        changed.rule_head[3] = rules;
+        tally(4, &changed);
+        tally(1000, &changed);
+    }
+    for application in [0, 1, 0xffff] {
+        let mut changed = card.clone();
+        changed.rule_head[8..10].copy_from_slice(&two(application));
+        tally(4, &changed);
+    }
+}
+
+fn lengths(base: &Card) {
+    let card = Card { titles: (999, 999), ..base.clone() };
+    for titles_length in [0, 15, 16, 15984, 15999, 16000, 16001, 32000] {
+        tally(4, &Card { titles_length, ..card.clone() });
+        tally(4, &Card { titles_length, rules_length: 31999, ..card.clone() });
+    }
+    for rules_length in [0, 31, 32, 16000, 31968, 31999, 32001] {
+        tally(4, &Card { rules_length, ..card.clone() });
+    }
+    tally(0, &Card { titles_length: 0, rules_length: 0, ..base.clone() });
 }
