@@ -4,7 +4,6 @@ use Prim.Native.Nat.{_+_, _-_, _≤_}
 use mathlib.Core.Path.{_≡_}
 use native.Mathlib.Omega.{arith}
 use lib.ListN.{length, length-take}
-use borrow.Author.Needs.{needs}
 use Rattle.edges.proofs.cards.fill.Statement.{statement}
 use Rattle.edges.proofs.cards.fill.Tie as tie
 

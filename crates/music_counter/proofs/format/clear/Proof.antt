@@ -1,10 +1,10 @@
 -- `music_counter::format::clear` meets its contract: the loop stores zeros one by one.
 -- Assumes nothing.
-use Prim.Native.Nat.{ℕ, suc, _+_, _-_, _≤_}
+use Prim.Native.Nat.{suc, _+_, _-_, _≤_}
 use mathlib.Core.Path.{_≡_, _∙_}
 use native.Mathlib.Omega.{arith}
 use denote.Ref.{now}
-use lib.ListN.{length, length-set, length-replicate, replicate}
+use lib.ListN.{length, length-replicate, replicate}
 use Rattle.formats.proofs.Part.{put-whole}
 use Rattle.formats.proofs.Stores.{Storing, start, store, done}
 use Rattle.music_counter.proofs.format.clear.Statement.{statement}
