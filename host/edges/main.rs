@@ -866,8 +866,10 @@ fn format_ledger(rows: u64, application: u64, length: usize) {
     let mut good = vec![0; length.max(4)];
     good[..2].copy_from_slice(&two(application));
     good[2..4].copy_from_slice(&two(rows));
+    let ledger = formatted(&good, refusal);
     let case = Case::new("format-ledger").of(rows).of(application).of(length as u64);
-    shown(case.number("answer", refusal), "ledger", &formatted(&good, refusal)).end();
+    let case = case.number("answer", refusal).number("check", ledger_check(&ledger[..length]));
+    shown(case, "ledger", &ledger).end();
 }
 
 fn format_card(application: u64, titles: usize, rules: usize) {
@@ -878,9 +880,12 @@ fn format_card(application: u64, titles: usize, rules: usize) {
     };
     let mut good = fresh_rules(32000);
     good[8..10].copy_from_slice(&two(application));
+    let title_table = formatted(&fresh_titles(16000), refusal);
+    let rule_table = formatted(&good, refusal);
     let case = Case::new("format-card").of_all(&[application, titles as u64, rules as u64], 3);
-    let case = shown(case.number("answer", refusal), "titles", &formatted(&fresh_titles(16000), refusal));
-    shown(case, "rules", &formatted(&good, refusal)).end();
+    let case = case.number("answer", refusal).number("check", titles_check(&title_table[..titles]));
+    let case = case.number("check", rules_check_for(&rule_table[..rules], application));
+    shown(shown(case, "titles", &title_table), "rules", &rule_table).end();
 }
 
 fn formatting() {

@@ -5,6 +5,7 @@ ghost use lib.ListN.{length};
 use crate::lines;
 use crate::print;
 use formats::facts::ContentId;
+use formats::head;
 use music_counter::format;
 use music_counter::tally;
 use music_counter::tally::Tallied;
@@ -40,6 +41,21 @@ fn show(word: &[u8], buffer: &[u8; 32001]) {
     state(word, buffer);
 }
 
+// Formats a ledger, and asks whether it passes then.
+fn format_and_check_ledger(ledger: &mut [u8], rows: u64, application: u16) {
+    let w = format::format_ledger(&mut *ledger, rows, application);
+    print::number(b"answer", w);
+    print::number(b"check", head::check_ledger(&*ledger));
+}
+
+// Formats a card, and asks whether its tables pass then.
+fn format_and_check_card(titles: &mut [u8], rules: &mut [u8], application: u16) {
+    let w = format::format_card(&mut *titles, &mut *rules, application);
+    print::number(b"answer", w);
+    print::number(b"check", head::check_titles(&*titles));
+    print::number(b"check", head::check_rules_for(&*rules, application as u64));
+}
+
 pub fn format_ledger(line: &[u8]) {
     let mut ledger = buffer(0xee);
     let v = lines::numbers(line, 1);
@@ -48,8 +64,7 @@ pub fn format_ledger(line: &[u8]) {
         print::unknown();
         return;
     }
-    let w = format::format_ledger(&mut ledger[..size as usize], v[0], (v[1] % 65536) as u16);
-    print::number(b"answer", w);
+    format_and_check_ledger(&mut ledger[..size as usize], v[0], (v[1] % 65536) as u16);
     show(b"ledger", &ledger);
 }
 
@@ -67,12 +82,11 @@ pub fn format_card(line: &[u8]) {
         print::unknown();
         return;
     }
-    let w = format::format_card(
+    format_and_check_card(
         &mut titles[..titles_size as usize],
         &mut rules[..rules_size as usize],
         (v[0] % 65536) as u16,
     );
-    print::number(b"answer", w);
     show(b"titles", &titles);
     show(b"rules", &rules);
 }

@@ -36,29 +36,23 @@ returns-2 c = search needs
 array-borrow-prefix-titles : tie.Need-array-borrow-prefix-titles
 array-borrow-prefix-titles c = search needs
 
-slice-aggregate-format-card : tie.Need-slice-aggregate-format-card
-slice-aggregate-format-card c = simp length-take (omega arith)
+slice-aggregate-format-and-check-card : tie.Need-slice-aggregate-format-and-check-card
+slice-aggregate-format-and-check-card c = simp length-take (omega arith)
 
 array-borrow-prefix-rules : tie.Need-array-borrow-prefix-rules
 array-borrow-prefix-rules c = search needs
 
-slice-aggregate-format-card-2 : tie.Need-slice-aggregate-format-card-2
-slice-aggregate-format-card-2 c = simp length-take (omega arith)
+slice-aggregate-format-and-check-card-2 : tie.Need-slice-aggregate-format-and-check-card-2
+slice-aggregate-format-and-check-card-2 c = simp length-take (omega arith)
 
-array-read-format-card : tie.Need-array-read-format-card
-array-read-format-card c = search needs
+array-read-format-and-check-card : tie.Need-array-read-format-and-check-card
+array-read-format-and-check-card c = search needs
 
-cast-format-card : tie.Need-cast-format-card
-cast-format-card c = search needs
+cast-format-and-check-card : tie.Need-cast-format-and-check-card
+cast-format-and-check-card c = search needs
 
-format-card-requires : tie.Need-format-card-requires
-format-card-requires c κs = search needs
-
-slice-aggregate-number : tie.Need-slice-aggregate-number
-slice-aggregate-number c = search needs
-
-number-requires : tie.Need-number-requires
-number-requires c κs = search needs
+format-and-check-card-requires : tie.Need-format-and-check-card-requires
+format-and-check-card-requires c κs = search needs
 
 slice-aggregate-show : tie.Need-slice-aggregate-show
 slice-aggregate-show c = search needs
@@ -89,14 +83,12 @@ format-card-spec =
     unknown-requires-2
     returns-2
     array-borrow-prefix-titles
-    slice-aggregate-format-card
+    slice-aggregate-format-and-check-card
     array-borrow-prefix-rules
-    slice-aggregate-format-card-2
-    array-read-format-card
-    cast-format-card
-    format-card-requires
-    slice-aggregate-number
-    number-requires
+    slice-aggregate-format-and-check-card-2
+    array-read-format-and-check-card
+    cast-format-and-check-card
+    format-and-check-card-requires
     slice-aggregate-show
     show-requires
     slice-aggregate-show-2

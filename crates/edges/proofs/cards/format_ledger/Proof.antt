@@ -24,26 +24,20 @@ returns c = search needs
 array-borrow-prefix-ledger : tie.Need-array-borrow-prefix-ledger
 array-borrow-prefix-ledger c = search needs
 
-slice-aggregate-format-ledger : tie.Need-slice-aggregate-format-ledger
-slice-aggregate-format-ledger c = simp length-take (omega arith)
+slice-aggregate-format-and-check-ledger : tie.Need-slice-aggregate-format-and-check-ledger
+slice-aggregate-format-and-check-ledger c = simp length-take (omega arith)
 
-array-read-format-ledger : tie.Need-array-read-format-ledger
-array-read-format-ledger c = search needs
+array-read-format-and-check-ledger : tie.Need-array-read-format-and-check-ledger
+array-read-format-and-check-ledger c = search needs
 
-array-read-format-ledger-2 : tie.Need-array-read-format-ledger-2
-array-read-format-ledger-2 c = search needs
+array-read-format-and-check-ledger-2 : tie.Need-array-read-format-and-check-ledger-2
+array-read-format-and-check-ledger-2 c = search needs
 
-cast-format-ledger : tie.Need-cast-format-ledger
-cast-format-ledger c = search needs
+cast-format-and-check-ledger : tie.Need-cast-format-and-check-ledger
+cast-format-and-check-ledger c = search needs
 
-format-ledger-requires : tie.Need-format-ledger-requires
-format-ledger-requires c κs = search needs
-
-slice-aggregate-number : tie.Need-slice-aggregate-number
-slice-aggregate-number c = search needs
-
-number-requires : tie.Need-number-requires
-number-requires c κs = search needs
+format-and-check-ledger-requires : tie.Need-format-and-check-ledger-requires
+format-and-check-ledger-requires c κs = search needs
 
 slice-aggregate-show : tie.Need-slice-aggregate-show
 slice-aggregate-show c = search needs
@@ -64,13 +58,11 @@ format-ledger-spec =
     unknown-requires
     returns
     array-borrow-prefix-ledger
-    slice-aggregate-format-ledger
-    array-read-format-ledger
-    array-read-format-ledger-2
-    cast-format-ledger
-    format-ledger-requires
-    slice-aggregate-number
-    number-requires
+    slice-aggregate-format-and-check-ledger
+    array-read-format-and-check-ledger
+    array-read-format-and-check-ledger-2
+    cast-format-and-check-ledger
+    format-and-check-ledger-requires
     slice-aggregate-show
     show-requires
     returns-2)
