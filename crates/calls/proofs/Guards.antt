@@ -3,6 +3,7 @@
 use Prim.Native.Nat.{ℕ, _*_}
 use mathlib.Core.Path.{_≡_, refl, sym, ap, _∙_}
 use mathlib.Core.Logic.{_≢_, inl}
+use mathlib.Core.List.{List}
 use mathlib.Core.Option.{some}
 use mathlib.Core.Bool.{Bool, true, false, not, _&&_, _||_, true≢false, cond}
 use native.Mathlib.Omega.{arith}
@@ -14,6 +15,7 @@ use Rattle.formats.specs.Rule.{wipedRule}
 use Rattle.formats.specs.Head.{rulesPass, ledgerApplication, rulesApplication}
 use Rattle.formats.specs.Request.{kindOf}
 use Rattle.formats.specs.declared.facts.Facts.{Facts}
+use Rattle.formats.specs.declared.facts.ContentId.{ContentId}
 use Rattle.formats.specs.declared.facts.EntryNumber.{EntryNumber}
 use Rattle.formats.specs.declared.facts.Fillers.{Fillers}
 use Rattle.formats.specs.declared.request.Request.{Request}
@@ -25,9 +27,9 @@ use Rattle.formats.proofs.rule.Laws.{rule-wiped}
 use Rattle.calls.specs.Buffers.{Buffers, titleAt, ruleAt, kindAt, isFull, contentAt, factsAt, rowFacts, withRow}
 use Rattle.calls.specs.Conditions.{numbered, mayNotMove, leavesKey, conditions}
 use Rattle.calls.specs.Effect.{effect, wipeEntry, wipeTitle}
-use Rattle.formats.specs.Row.{plainRow}
-use Rattle.calls.specs.Perform.{perform}
-use Rattle.calls.specs.Guards.{titleNamed, titleKey, stiKey, Guards}
+use Rattle.formats.specs.Row.{hereRow, plainRow}
+use Rattle.calls.specs.Perform.{refusal, perform}
+use Rattle.calls.specs.Guards.{titleNamed, withCard, titleKey, stiKey, Guards}
 use Rattle.calls.proofs.Refusals.{answer-first, of-first, fails-so, carried-out}
 use Rattle.calls.proofs.Passed.{Passed, passed, OnCard, on-card}
 use Rattle.calls.proofs.Views.{entry-same}
@@ -48,6 +50,17 @@ module _ (b : Buffers) where
   no-title (MoveOut j h f) d e outside = let z : _≡_ {A = ℕ} 0 1 = cc in absurd (omega arith)
   no-title (MoveIn c j h) d e outside = let i : d ≡ c .0 = cc in answer-first (MoveIn c j h) b ∙ of-first 4 _ (inl (fails-so (rw i at outside), refl))
   no-title (Delete j f) d e outside = let z : _≡_ {A = ℕ} 0 1 = cc in absurd (omega arith)
+
+  ledger-alone : (c : ContentId) (f : Facts) (titles rules : List ℕ)
+      → (perform (Register c f) (withCard titles rules b) .answer ≡ perform (Register c f) b .answer)
+      × (perform (Register c f) (withCard titles rules b) .buffers .ledger ≡ perform (Register c f) b .buffers .ledger)
+  unfolding perform refusal conditions effect
+  ledger-alone c f titles rules = (refl, either-way (eqb (refusal (Register c f) b) 0))
+    where
+      either-way : (x : Bool)
+          → (cond x (withRow (c .0) (hereRow f) (withCard titles rules b)) (withCard titles rules b)) .ledger ≡ (cond x (withRow (c .0) (hereRow f) b) b) .ledger
+      either-way true = refl
+      either-way false = refl
 
   -- the application numbers are the same where condition 9 does not hold
   same-application : not (rulesPass (b .rules) && eqb (rulesApplication (b .rules)) (ledgerApplication (b .ledger))) ≡ false
@@ -110,6 +123,7 @@ module _ (b : Buffers) where
   guards =
       record {
         no-such-title = no-title;
+        ledger-only = ledger-alone;
         other-application = λ k lent other e. other (done-here k lent (passed k b e));
         triggered-out = λ j h f is e. not-triggered (factsAt b (j .0)) (passed (MoveOut j h f) b e 12 .0) is;
         triggered-in = λ c j h is e. not-triggered (rowFacts b (c .0)) (passed (MoveIn c j h) b e 12 .0) is;
