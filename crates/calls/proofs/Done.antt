@@ -27,7 +27,7 @@ use Rattle.formats.proofs.head.Laws.{LedgerHead}
 use Rattle.formats.proofs.row.Laws.{here-length, plain-length, permits-length, state-here, state-plain-away, state-plain-gone, state-permits, here-facts, here-keys}
 use Rattle.calls.specs.Count.{oneLess, oneMore}
 use Rattle.calls.specs.Buffers.{Buffers, rowAt, titleAt, ruleAt, stateAt, rowFacts, kindAt, contentAt, factsAt, isFull, withRow, withTitle, withRule}
-use Rattle.calls.specs.Effect.{moved, setPermits, effect}
+use Rattle.calls.specs.Effect.{afterMove, setPermits, effect}
 use Rattle.calls.specs.Perform.{AreBytes}
 use Rattle.calls.proofs.Counts.{less-most, more-most}
 use Rattle.calls.proofs.Passed.{are-facts, is-ledger, is-free, is-copy, is-full, is-empty, is-here, is-away, a-state, Passed, OnCard, on-card}
@@ -42,9 +42,9 @@ pub record Leaves (b after : Buffers) (c j : ℕ) (r : RowState) (q : Place) : T
   pub rows-else : (d : ℕ) → d ≢ c → stateAt after d ≡ stateAt b d
   pub places-else : (i : ℕ) → Within 999 i → i ≢ j → view after .places i ≡ view b .places i
 
--- facts that moved are in their ranges
-moved-ranges : (f : Facts) → Ranges f → Ranges (moved f)
-moved-ranges f r = record { cci = r .cci; kind = r .kind; trigger = r .trigger; rights = less-most (f .rights) (r .rights); permits = r .permits }
+-- facts after a move are in their ranges
+after-move-ranges : (f : Facts) → Ranges f → Ranges (afterMove f)
+after-move-ranges f r = record { cci = r .cci; kind = r .kind; trigger = r .trigger; rights = less-most (f .rights) (r .rights); permits = r .permits }
 
 module _ (b : Buffers) where
   -- a row that is here, as its bytes say
@@ -159,7 +159,7 @@ module _ (b : Buffers) where
       (wiped-copy-place _ _ f1 (is-copy (kindAt b (j .0)) (t 10 .0)))
 
   pub move-out-leaves : (j : EntryNumber) (h : ℕ) (f : Fillers) → AreBytes b → Passed (MoveOut j h f) b
-      → Leaves b (effect (MoveOut j h f) b) (contentAt b (j .0)) (j .0) (Here (moved (factsAt b (j .0)))) vacant
+      → Leaves b (effect (MoveOut j h f) b) (contentAt b (j .0)) (j .0) (Here (afterMove (factsAt b (j .0)))) vacant
   unfolding effect
   move-out-leaves j h f are-bytes t =
       let o = on-card b (j .0) _ (t 5 .0) (t 7 .0) (t 8 .0) (t 9 .0) in
@@ -167,19 +167,19 @@ module _ (b : Buffers) where
       let g = factsAt b (j .0) in
       let i = full-facts (j .0) are-bytes o (is-full (kindAt b (j .0)) (t 10 .0)) in
       let is = in-a-state (b .ledger) c (o .head) (a-state Away refl (is-away (stateAt b c) (t 11 .0))) in
-      row-and-halves _ _ _ is o (here-length (moved g)) (wiped-title-long (j .0) o (f .f1)) (wiped-rule-long (j .0) o f)
-      (state-here (moved g) (in-range (moved-ranges g (i .in-ranges))) (i .title-key) (i .sti-key)) (wiped-full-place _ _ f (rule-long (j .0) o))
+      row-and-halves _ _ _ is o (here-length (afterMove g)) (wiped-title-long (j .0) o (f .f1)) (wiped-rule-long (j .0) o f)
+      (state-here (afterMove g) (in-range (after-move-ranges g (i .in-ranges))) (i .title-key) (i .sti-key)) (wiped-full-place _ _ f (rule-long (j .0) o))
 
   pub move-in-leaves : (c : ContentId) (j : EntryNumber) (h : ℕ) → AreBytes b → Passed (MoveIn c j h) b
-      → Leaves b (effect (MoveIn c j h) b) (c .0) (j .0) Away (full (c .0) (moved (rowFacts b (c .0))))
+      → Leaves b (effect (MoveIn c j h) b) (c .0) (j .0) Away (full (c .0) (afterMove (rowFacts b (c .0))))
   unfolding effect
   move-in-leaves c j h are-bytes t =
       let o = on-card b (j .0) _ (t 5 .0) (t 7 .0) (t 8 .0) (t 9 .0) in
-      let f = moved (rowFacts b (c .0)) in
+      let f = afterMove (rowFacts b (c .0)) in
       let i = here-row (c .0) (o .head) (is-here (stateAt b (c .0)) (t 11 .0)) in
       let keys = here-keys (rowAt (b .ledger) (c .0)) (i .reads) (row-length (b .ledger) (c .0) (i .is-row)) (bytes-part (b .ledger) (24 * c .0) 24 (are-bytes .ledger)) in
       row-and-halves _ _ _ (i .is-row) o (plain-length 2) (length-titleHalf (f .cci) (f .«title_key») (c .0)) (length-ruleHalf f h (c .0)) state-plain-away
-      (full-place (c .0) (row-numbered (b .ledger) (c .0) (i .is-row)) f h (moved-ranges (rowFacts b (c .0)) (i .in-ranges)) (keys .0) (keys .1))
+      (full-place (c .0) (row-numbered (b .ledger) (c .0) (i .is-row)) f h (after-move-ranges (rowFacts b (c .0)) (i .in-ranges)) (keys .0) (keys .1))
 
   -- a delete of a copy leaves its row
   pub delete-copy-leaves : (j : EntryNumber) (f : Fillers) → OnCard b (j .0) → kindAt b (j .0) ≡ Copy

@@ -33,7 +33,7 @@ use Rattle.calls.specs.Count.{oneLess, oneMore}
 use Rattle.calls.specs.Buffers.{Buffers, stateAt, rowFacts, hereFacts, kindAt, contentAt, factsAt, isCopy, isHere}
 use Rattle.calls.specs.Refusal.{first}
 use Rattle.calls.specs.Conditions.{arguments, allHeads, mayNotMove, state, conditions}
-use Rattle.calls.specs.Effect.{moved}
+use Rattle.calls.specs.Effect.{afterMove}
 use Rattle.calls.specs.Perform.{perform, AreBytes}
 use Rattle.calls.specs.Examples.{E1, E2, E3, E4, E5, RightsInRow, PermitsInRow, RightsInEntry, Moves, E6, E7, E8, ChecksIn, PassesUntil15, E9, E10, TenExamples}
 use Rattle.calls.proofs.Refusals.{past, of-first, meets, answer-first, refused-by, carried-out, holds-not, fails-so}
@@ -107,7 +107,7 @@ module _ (b : Buffers) (j : EntryNumber) (h : ℕ) (f : Fillers) where
   less-in-row : AreBytes b → perform (MoveOut j h f) b .answer ≡ 0
       → RightsInRow (perform (MoveOut j h f) b .buffers) (contentAt b (j .0)) (oneLess (entry-facts .rights))
   less-in-row are-bytes e =
-      rights-in (perform (MoveOut j h f) b .buffers) (contentAt b (j .0)) (moved entry-facts)
+      rights-in (perform (MoveOut j h f) b .buffers) (contentAt b (j .0)) (afterMove entry-facts)
       (ap (λ (x : Buffers). stateAt x (contentAt b (j .0))) (carried-out (MoveOut j h f) b e)
       ∙ move-out-leaves b j h f are-bytes (passed (MoveOut j h f) b e) .row) refl
 
@@ -127,7 +127,7 @@ module _ (b : Buffers) (c : ContentId) (j : EntryNumber) (h : ℕ) where
       → RightsInEntry (perform (MoveIn c j h) b .buffers) (j .0) (c .0) (oneLess (row-facts .rights))
   less-in-entry are-bytes e =
       let after = perform (MoveIn c j h) b .buffers in
-      let (k, id, facts) = full-entry (kindAt after (j .0)) (contentAt after (j .0)) (factsAt after (j .0)) (c .0) (moved row-facts)
+      let (k, id, facts) = full-entry (kindAt after (j .0)) (contentAt after (j .0)) (factsAt after (j .0)) (c .0) (afterMove row-facts)
       (ap (λ (x : Buffers). view x .places (j .0)) (carried-out (MoveIn c j h) b e) ∙ move-in-leaves b c j h are-bytes (passed (MoveIn c j h) b e) .place) in
       record { full = k; id = id; are = ap (λ (x : Facts). x .rights) facts }
 

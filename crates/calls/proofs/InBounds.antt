@@ -24,9 +24,9 @@ use Rattle.formats.proofs.rule.Laws.{length-ruleHalf, rule-bytes, wipedRule-len
 use Rattle.formats.proofs.row.Laws.{here-length, here-bytes, plain-length, plain-bytes, permits-length, permits-bytes}
 use Rattle.calls.specs.Count.{oneLess, oneMore}
 use Rattle.calls.specs.Buffers.{Buffers, rowAt, titleAt, ruleAt, stateAt, rowFacts, contentAt, factsAt, isFull, withRow, withTitle, withRule}
-use Rattle.calls.specs.Effect.{moved, setPermits, fill, wipeTitle, wipeEntry, effect}
-use Rattle.calls.specs.Perform.{perform, Bytes, AreBytes, InBounds}
-use Rattle.calls.proofs.Refusals.{unchanged, carried-out}
+use Rattle.calls.specs.Effect.{afterMove, setPermits, writeEntry, wipeTitle, wipeEntry, effect}
+use Rattle.calls.specs.Perform.{perform, Bytes, AreBytes, InBounds, Demand1}
+use Rattle.calls.proofs.Refusals.{unchanged, carried-out, refused-first}
 use Rattle.calls.proofs.Passed.{is-ledger, is-empty, is-here, is-away, a-state, Passed, passed, on-card, a-copy, a-holder, deletes}
 use Rattle.calls.proofs.Views.{IsRow, in-a-state, row-inside, row-length, entry-inside, entry-length}
 use Rattle.calls.proofs.History.Totals.{Within}
@@ -99,7 +99,7 @@ module _ (b : Buffers) where
 
 -- an entry filled, or wiped
 module _ (b : Buffers) (j : ℕ) (in-table : Within 999 j) (titles-long : length (b .titles) ≡ 16000) (rules-long : length (b .rules) ≡ 32000) where
-  filled : (c : ℕ) (f : Facts) (h : ℕ) → InBounds b (fill c j f h b)
+  filled : (c : ℕ) (f : Facts) (h : ℕ) → InBounds b (writeEntry c j f h b)
   filled c f h =
       and-then (rule b j in-table rules-long (ruleHalf f h c) (length-ruleHalf f h c) (λ x. rule-bytes f h c))
       (title (withRule j (ruleHalf f h c) b) j in-table titles-long (titleHalf (f .cci) (f .«title_key») c) (length-titleHalf (f .cci) (f .«title_key») c)
@@ -148,14 +148,14 @@ module _ (b : Buffers) where
       let c = contentAt b (j .0) in
       let e = is-away (stateAt b c) (t 11 .0) in
       let is = in-a-state (b .ledger) c (o .head) (a-state Away refl e) in
-      let g = moved (factsAt b (j .0)) in
+      let g = afterMove (factsAt b (j .0)) in
       and-then (row-here c g is) (entry-wiped (withRow c (hereRow g) b) (j .0) (o .entry) (o .titles-long) (o .rules-long) f)
   done (MoveIn c j h) t =
       let o = on-card b (j .0) _ (t 5 .0) (t 7 .0) (t 8 .0) (t 9 .0) in
       let f = rowFacts b (c .0) in
       let e = is-here (stateAt b (c .0)) (t 11 .0) in
       let is = in-a-state (b .ledger) (c .0) (o .head) (a-state (Here f) refl e) in
-      and-then (row-plain (c .0) 2 (lit< tt) is) (filled (withRow (c .0) (plainRow 2) b) (j .0) (o .entry) (o .titles-long) (o .rules-long) (c .0) (moved f) h)
+      and-then (row-plain (c .0) 2 (lit< tt) is) (filled (withRow (c .0) (plainRow 2) b) (j .0) (o .entry) (o .titles-long) (o .rules-long) (c .0) (afterMove f) h)
   done (Delete j f) t =
       let o = on-card b (j .0) _ (t 5 .0) (t 7 .0) (t 8 .0) (t 9 .0) in
       let c = contentAt b (j .0) in
@@ -174,3 +174,7 @@ in-bounds k b =
       | yes zero ↦ subst (InBounds b) (sym (carried-out k b zero)) (done b k (passed k b zero))
       | no some ↦ subst (InBounds b) (sym (unchanged k b some)) (same b)
     ]
+
+-- DEMAND 1
+pub demand-1 : Demand1
+demand-1 k b = (refused-first k b, in-bounds k b)

@@ -13,10 +13,10 @@ use Rattle.formats.specs.declared.request.Request.the-variants.{Register, Recor
 use Rattle.formats.specs.Refusal.{unless as answer}
 use Rattle.formats.proofs.Tests.{split, both, one-holds, refuted}
 use Rattle.calls.specs.Buffers.{Buffers}
-use Rattle.calls.specs.Refusal.{Condition, _when_, _unless_, first, ascendingFrom, FirstToHold, NoneHolds}
+use Rattle.calls.specs.Refusal.{Condition, _when_, _unless_, first, numbersOf, FirstToHold, NoneHolds}
 use Rattle.calls.specs.Conditions.{conditions}
 use Rattle.calls.specs.Effect.{effect}
-use Rattle.calls.specs.Perform.{refusal, perform, RefusedFirst}
+use Rattle.calls.specs.Perform.{refusal, perform, checked, RefusedFirst}
 
 -- no condition has the number 0, which is the answer of a call that is done
 abbrev pub refusing : List Condition → Bool
@@ -162,24 +162,27 @@ unmet n ((m when b) ∷ cs) h = also (eqb m n) (b ≡ false) (Unmet n cs) (h .0)
 
 -- THE CALLS
 
--- their conditions go in number order
-pub conditions-ascend : (k : Request) (b : Buffers) → ascendingFrom 0 (conditions k b) ≡ true
-unfolding conditions ascendingFrom
-conditions-ascend (Register c f) b = refl
-conditions-ascend (Record c j f h) b = refl
-conditions-ascend (CheckOut c j) b = refl
-conditions-ascend (CheckIn j f1) b = refl
-conditions-ascend (MoveOut j h f) b = refl
-conditions-ascend (MoveIn c j h) b = refl
-conditions-ascend (Delete j f) b = refl
+-- they check these numbers
+numbers-checked : (k : Request) (b : Buffers) → numbersOf (conditions k b) ≡ checked k
+unfolding conditions
+numbers-checked (Register c f) b = refl
+numbers-checked (Record c j f h) b = refl
+numbers-checked (CheckOut c j) b = refl
+numbers-checked (CheckIn j f1) b = refl
+numbers-checked (MoveOut j h f) b = refl
+numbers-checked (MoveIn c j h) b = refl
+numbers-checked (Delete j f) b = refl
 
--- so none has the number 0
-above-0 : (n : ℕ) (cs : List Condition) → ascendingFrom n cs ≡ true → refusing cs ≡ true
-unfolding ascendingFrom
-above-0 n [] e = refl
-above-0 n ((m when b) ∷ cs) e =
-    let (above, rest) = split (ltb n m) (ascendingFrom m cs) e in
-    both (ap not (ne-eqb m 0 (λ z. omega (arith, ltb-true n m above)))) (above-0 m cs rest)
+-- of which none is 0
+none-is-0 : (k : Request) (b : Buffers) → refusing (conditions k b) ≡ true
+unfolding conditions
+none-is-0 (Register c f) b = refl
+none-is-0 (Record c j f h) b = refl
+none-is-0 (CheckOut c j) b = refl
+none-is-0 (CheckIn j f1) b = refl
+none-is-0 (MoveOut j h f) b = refl
+none-is-0 (MoveIn c j h) b = refl
+none-is-0 (Delete j f) b = refl
 
 module _ (k : Request) (b : Buffers) where
   -- a call answers what the first of its conditions that holds says
@@ -203,13 +206,13 @@ module _ (k : Request) (b : Buffers) where
 
   -- done, none of its conditions holds
   pub none-holds : perform k b .answer ≡ 0 → NoneHolds (conditions k b)
-  none-holds zero = to-none (conditions k b) (above-0 0 (conditions k b) (conditions-ascend k b)) (sym answer-first ∙ zero)
+  none-holds zero = to-none (conditions k b) (none-is-0 k b) (sym answer-first ∙ zero)
 
 -- Demand 1: a call that meets a condition gets the number of the first one and changes nothing; every other call is done.
 pub refused-first : (k : Request) (b : Buffers) → RefusedFirst k b
 refused-first k b =
     record {
-      in-number-order = conditions-ascend k b;
+      checks = numbers-checked k b;
       refused = λ n some h. answer-first k b ∙ of-first n (conditions k b) h;
       only-refused = λ n some e. to-first n (conditions k b) some (sym (answer-first k b) ∙ e);
       unchanged = unchanged k b;

@@ -32,7 +32,7 @@ titleAt titles j = part titles (16 * j) 16
 abbrev pub ruleAt : List ℕ → ℕ → List ℕ
 ruleAt rules j = part rules (32 * j) 32
 
--- the state of row c of a ledger; a row above R, of which there is none, is in no state
+-- the state of row c of a ledger; row 0 and rows above R, of which there are none, are in no state
 unfoldable pub stateIn : List ℕ → ℕ → RowState
 stateIn ledger c = cond (leb 1 c && leb c (rowsOf ledger)) (stateOf (rowAt ledger c)) NoState
 

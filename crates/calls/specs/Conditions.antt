@@ -17,7 +17,7 @@ use Rattle.calls.specs.Refusal.{Condition, _when_, _unless_}
 abbrev pub numbered : ℕ → Bool
 numbered v = leb 1 v && leb v 999
 
--- "CCI 1 or above 3, trigger above 1, rights or permits above 15, a key of 2^56 or more" all fail
+-- condition 6 does not hold: CCI 0, 2 or 3, trigger 0 or 1, rights and permits at most 15, keys below 2^56
 abbrev pub factsPass : Facts → Bool
 factsPass f = inRange f && (keyPasses (f .«title_key») && keyPasses (f .«sti_key»))
 

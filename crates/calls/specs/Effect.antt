@@ -13,8 +13,8 @@ use Rattle.calls.specs.Count.{oneLess, oneMore}
 use Rattle.calls.specs.Buffers.{Buffers, rowAt, titleAt, ruleAt, rowFacts, kindAt, contentAt, factsAt, isFull, withRow, withTitle, withRule}
 
 -- "rights less 1, or 15 unchanged": the facts after a move
-abbrev pub moved : Facts → Facts
-moved f =
+abbrev pub afterMove : Facts → Facts
+afterMove f =
     record {
       cci = f .cci;
       trigger = f .trigger;
@@ -24,13 +24,13 @@ moved f =
       «sti_key» = f .«sti_key»;
     }
 
--- row c with other permits; it is here, and no other byte of it changes
+-- row c with other permits: no byte but 4 changes
 abbrev pub setPermits : ℕ → ℕ → Buffers → Buffers
 setPermits c permits b = withRow c (withPermits (rowAt (b .ledger) c) permits) b
 
 -- entry j full, with ID c, the facts f and h
-abbrev pub fill : ℕ → ℕ → Facts → ℕ → Buffers → Buffers
-fill c j f h b = withTitle j (titleHalf (f .cci) (f .«title_key») c) (withRule j (ruleHalf f h c) b)
+abbrev pub writeEntry : ℕ → ℕ → Facts → ℕ → Buffers → Buffers
+writeEntry c j f h b = withTitle j (titleHalf (f .cci) (f .«title_key») c) (withRule j (ruleHalf f h c) b)
 
 -- the title half of entry j wiped; both halves wiped
 abbrev pub wipeTitle : ℕ → ℕ → Buffers → Buffers
@@ -48,14 +48,14 @@ wipeEntry j f b = wipeTitle j (f .f1) (withRule j (wipedRule (ruleAt (b .rules) 
 -- 7 delete: "a copy has its title half wiped ..; a full entry has both halves wiped and its row, away, becomes gone"
 unfoldable pub effect : Request → Buffers → Buffers
 effect (Register c f) b = withRow (c .0) (hereRow f) b
-effect (Record c j f h) b = fill (c .0) (j .0) f h (withRow (c .0) (plainRow 2) b)
+effect (Record c j f h) b = writeEntry (c .0) (j .0) f h (withRow (c .0) (plainRow 2) b)
 effect (CheckOut c j) b =
     let f = rowFacts b (c .0) in
     withTitle (j .0) (titleHalf (f .cci) (f .«title_key») (c .0)) (setPermits (c .0) (oneLess (f .permits)) b)
 effect (CheckIn j f1) b =
     let c = contentAt b (j .0) in
     wipeTitle (j .0) f1 (setPermits c (oneMore (rowFacts b c .permits)) b)
-effect (MoveOut j h f) b = wipeEntry (j .0) f (withRow (contentAt b (j .0)) (hereRow (moved (factsAt b (j .0)))) b)
-effect (MoveIn c j h) b = fill (c .0) (j .0) (moved (rowFacts b (c .0))) h (withRow (c .0) (plainRow 2) b)
+effect (MoveOut j h f) b = wipeEntry (j .0) f (withRow (contentAt b (j .0)) (hereRow (afterMove (factsAt b (j .0)))) b)
+effect (MoveIn c j h) b = writeEntry (c .0) (j .0) (afterMove (rowFacts b (c .0))) h (withRow (c .0) (plainRow 2) b)
 effect (Delete j f) b =
     cond (isFull (kindAt b (j .0))) (wipeEntry (j .0) f (withRow (contentAt b (j .0)) (plainRow 3) b)) (wipeTitle (j .0) (f .f1) b)

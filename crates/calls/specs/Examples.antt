@@ -25,35 +25,35 @@ use Rattle.calls.specs.Conditions.{arguments, allHeads}
 use Rattle.calls.specs.Perform.{perform, AreBytes}
 
 -- a number and its bytes, as it is written and as it is read
-abbrev pub Is : ℕ → List ℕ → Type 0
-Is n bytes = (groups n ≡ bytes) × (readNumber bytes ≡ Number n (length bytes))
+abbrev pub NumberBytes : ℕ → List ℕ → Type 0
+NumberBytes n bytes = (groups n ≡ bytes) × (readNumber bytes ≡ Number n (length bytes))
 
 -- E1: 127 is 7Fh; 128 is 80h 01h; 999 is E7h 07h
 abbrev pub E1 : Type 0
-E1 = Is 127 (0x7F ∷ []) × Is 128 (0x80 ∷ 0x01 ∷ []) × Is 999 (0xE7 ∷ 0x07 ∷ [])
+E1 = NumberBytes 127 (0x7F ∷ []) × NumberBytes 128 (0x80 ∷ 0x01 ∷ []) × NumberBytes 999 (0xE7 ∷ 0x07 ∷ [])
 
 -- E2: 80h 00h: 2; 80h alone: 1
 abbrev pub E2 : Type 0
 E2 = ((rest : List ℕ) → readNumber (0x80 ∷ 0x00 ∷ rest) ≡ NoNumber 2) × (readNumber (0x80 ∷ []) ≡ NoNumber 1)
 
 -- nine bytes FFh, and others after them
-abbrev pub nineThen : List ℕ → List ℕ
-nineThen rest = 0xFF ∷ 0xFF ∷ 0xFF ∷ 0xFF ∷ 0xFF ∷ 0xFF ∷ 0xFF ∷ 0xFF ∷ 0xFF ∷ rest
+abbrev pub nineFF : List ℕ → List ℕ
+nineFF rest = 0xFF ∷ 0xFF ∷ 0xFF ∷ 0xFF ∷ 0xFF ∷ 0xFF ∷ 0xFF ∷ 0xFF ∷ 0xFF ∷ rest
 
 -- E3: 2^64 - 1 is nine bytes FFh, then 01h; with 02h last: 2
 abbrev pub E3 : Type 0
-E3 = Is (2 ^ 64 - 1) (nineThen (0x01 ∷ [])) × ((rest : List ℕ) → readNumber (nineThen (0x02 ∷ rest)) ≡ NoNumber 2)
+E3 = NumberBytes (2 ^ 64 - 1) (nineFF (0x01 ∷ [])) × ((rest : List ℕ) → readNumber (nineFF (0x02 ∷ rest)) ≡ NoNumber 2)
 
 abbrev pub checkOut : ℕ → ℕ → Request
 checkOut row entry = CheckOut (record { 0 = row }) (record { 0 = entry })
 
 -- a request and its bytes, as it is written and as it is read
-abbrev pub Says : Request → List ℕ → Type 0
-Says q bytes = (written q ≡ bytes) × (readRequest bytes ≡ Read q (length bytes))
+abbrev pub RequestBytes : Request → List ℕ → Type 0
+RequestBytes q bytes = (written q ≡ bytes) × (readRequest bytes ≡ Read q (length bytes))
 
 -- E4: check-out of row 5 to entry 999: 03 05 E7 07
 abbrev pub E4 : Type 0
-E4 = Says (checkOut 5 999) (0x03 ∷ 0x05 ∷ 0xE7 ∷ 0x07 ∷ [])
+E4 = RequestBytes (checkOut 5 999) (0x03 ∷ 0x05 ∷ 0xE7 ∷ 0x07 ∷ [])
 
 -- a title half that is written with a CCI, a key and an ID is these bytes; they make a copy, beside any rule half that is
 -- not usable, and CCI, key and ID are read from them
@@ -102,7 +102,7 @@ pub record Moves (before after : ℕ) : Type 0 where
 abbrev pub E6 : Type 0
 E6 = Moves 15 15 × Moves 14 13 × Moves 1 0
 
--- condition 9 has nothing against the rule table but, it may be, its version
+-- the rule table passes condition 9, except possibly for its version
 pub record PassesButVersion (b : Buffers) : Type 0 where
   pub table : tablePasses 0x4D31 32000 32 0x02 (b .rules) ≡ true
   pub application : rulesApplication (b .rules) ≡ ledgerApplication (b .ledger)

@@ -52,13 +52,13 @@ start rows application cardApplication = record { log = []; buffers = fresh rows
 -- THE COUNTS, from the log
 
 -- what was put at an entry, and of which title
-pub data Placed : Type 0 where
-  nothing : Placed
-  aCopy : ℕ → Placed
-  theHolder : ℕ → Placed
+pub data LastPut : Type 0 where
+  nothing : LastPut
+  aCopy : ℕ → LastPut
+  theHolder : ℕ → LastPut
 
--- what a done call puts at entry j, where `before` was put there before it
-abbrev pub puts : Request → ℕ → Placed → Placed
+-- what was last put at entry j once this call is done, where `before` was last put there before it
+abbrev pub puts : Request → ℕ → LastPut → LastPut
 puts (Register c f) j before = before
 puts (Record c i f h) j before = cond (eqb j (i .0)) (theHolder (c .0)) before
 puts (CheckOut c i) j before = cond (eqb j (i .0)) (aCopy (c .0)) before
@@ -68,31 +68,31 @@ puts (MoveIn c i h) j before = cond (eqb j (i .0)) (theHolder (c .0)) before
 puts (Delete i f) j before = before
 
 -- "the last done record, check-out or move in .. to that entry"
-unfoldable pub lastAt : ℕ → Log → Placed
+unfoldable pub lastAt : ℕ → Log → LastPut
 lastAt j [] = nothing
 lastAt j (a ∷ log) = cond (done a) (puts (a .call) j (lastAt j log)) (lastAt j log)
 
 -- what a done call does to a title
-pub data Deed : Type 0 where
-  granted : Facts → Deed
-  checkedOut : Deed
-  checkedIn : Deed
-  moved : Deed
-  copyDeleted : Deed
-  holderDeleted : Deed
+pub data Action : Type 0 where
+  granted : Facts → Action
+  checkedOut : Action
+  checkedIn : Action
+  moved : Action
+  copyDeleted : Action
+  holderDeleted : Action
 
 pub record Event : Type 0 where
   pub title : ℕ
-  pub deed : Deed
+  pub action : Action
 
 -- the title named by the call that put it there; 0, which no title has, where there was none
-abbrev pub titleOf : Placed → ℕ
+abbrev pub titleOf : LastPut → ℕ
 titleOf nothing = 0
 titleOf (aCopy c) = c
 titleOf (theHolder c) = c
 
 -- "A done delete deletes a copy if that last call was a check-out, and the holder otherwise."
-abbrev pub deletion : Placed → Deed
+abbrev pub deletion : LastPut → Action
 deletion nothing = holderDeleted
 deletion (aCopy c) = copyDeleted
 deletion (theHolder c) = holderDeleted
@@ -101,22 +101,22 @@ deletion (theHolder c) = holderDeleted
 -- check-in, move out or delete names only an entry: it belongs to the title named by the last done record, check-out or
 -- move in before it to that entry. .. Moves are move outs and move ins together."
 abbrev pub event : Request → Log → Event
-event (Register c f) log = record { title = c .0; deed = granted f }
-event (Record c j f h) log = record { title = c .0; deed = granted f }
-event (CheckOut c j) log = record { title = c .0; deed = checkedOut }
-event (CheckIn j f1) log = record { title = titleOf (lastAt (j .0) log); deed = checkedIn }
-event (MoveOut j h f) log = record { title = titleOf (lastAt (j .0) log); deed = moved }
-event (MoveIn c j h) log = record { title = c .0; deed = moved }
-event (Delete j f) log = record { title = titleOf (lastAt (j .0) log); deed = deletion (lastAt (j .0) log) }
+event (Register c f) log = record { title = c .0; action = granted f }
+event (Record c j f h) log = record { title = c .0; action = granted f }
+event (CheckOut c j) log = record { title = c .0; action = checkedOut }
+event (CheckIn j f1) log = record { title = titleOf (lastAt (j .0) log); action = checkedIn }
+event (MoveOut j h f) log = record { title = titleOf (lastAt (j .0) log); action = moved }
+event (MoveIn c j h) log = record { title = c .0; action = moved }
+event (Delete j f) log = record { title = titleOf (lastAt (j .0) log); action = deletion (lastAt (j .0) log) }
 
 -- all that was done to title c, the last first
-unfoldable pub deeds : ℕ → Log → List Deed
-deeds c [] = []
-deeds c (a ∷ log) =
-    cond (done a && eqb c (event (a .call) log .title)) (event (a .call) log .deed ∷ deeds c log) (deeds c log)
+unfoldable pub actions : ℕ → Log → List Action
+actions c [] = []
+actions c (a ∷ log) =
+    cond (done a && eqb c (event (a .call) log .title)) (event (a .call) log .action ∷ actions c log) (actions c log)
 
--- how often a deed stands among others; grants are not told apart by their facts
-abbrev pub number : Deed → ℕ
+-- a number for each sort of action, the same for all grants
+abbrev pub number : Action → ℕ
 number (granted f) = 0
 number checkedOut = 1
 number checkedIn = 2
@@ -124,12 +124,13 @@ number moved = 3
 number copyDeleted = 4
 number holderDeleted = 5
 
-unfoldable pub times : Deed → List Deed → ℕ
+-- how often a sort of action stands in a list
+unfoldable pub times : Action → List Action → ℕ
 times d [] = 0
 times d (e ∷ ds) = one (eqb (number d) (number e)) + times d ds
 
 -- "g, m and the granted keys are in that call's facts"
-abbrev pub grantedBy : Deed → Option Facts → Option Facts
+abbrev pub grantedBy : Action → Option Facts → Option Facts
 grantedBy (granted f) before = some f
 grantedBy checkedOut before = before
 grantedBy checkedIn before = before
@@ -137,7 +138,7 @@ grantedBy moved before = before
 grantedBy copyDeleted before = before
 grantedBy holderDeleted before = before
 
-unfoldable pub grant : List Deed → Option Facts
+unfoldable pub grant : List Action → Option Facts
 grant [] = none
 grant (d ∷ ds) = grantedBy d (grant ds)
 
@@ -164,8 +165,8 @@ pub record Account (granted left used : ℕ) : Type 0 where
   pub counted : granted ≤ 14 → left + used ≡ granted
   pub unlimited : granted ≡ 15 → left ≡ 15
 
--- title c, granted with the facts f, whose deeds are ds: "unless its holder was deleted, all four hold"
-pub record Kept (c : ℕ) (f : Facts) (ds : List Deed) (b : Buffers) : Type 0 where
+-- title c, granted with the facts f, whose actions are ds: "unless its holder was deleted, all four hold"
+pub record HolderStands (c : ℕ) (f : Facts) (ds : List Action) (b : Buffers) : Type 0 where
   -- "It has exactly one holder, with the granted keys."
   pub one-holder : holders c b ≡ 1
   pub facts : Facts
@@ -178,21 +179,21 @@ pub record Kept (c : ℕ) (f : Facts) (ds : List Deed) (b : Buffers) : Type 0 wh
   pub rights : Account (f .rights) (facts .rights) (times moved ds)
 
 -- "If its holder was deleted, it has neither holder nor copy."
-pub record Lost (c : ℕ) (b : Buffers) : Type 0 where
+pub record NoHolder (c : ℕ) (b : Buffers) : Type 0 where
   pub no-holder : holders c b ≡ 0
   pub no-copy : copies c (b .titles) (b .rules) ≡ 0
 
-pub record Story (c : ℕ) (f : Facts) (ds : List Deed) (b : Buffers) : Type 0 where
-  -- the done register or record is one
+pub record TitleClaim (c : ℕ) (f : Facts) (ds : List Action) (b : Buffers) : Type 0 where
+  -- exactly one done register or record has c
   pub granted-once : times (granted f) ds ≡ 1
-  pub kept : times holderDeleted ds ≡ 0 → Kept c f ds b
-  pub lost : times holderDeleted ds ≢ 0 → Lost c b
+  pub unless-deleted : times holderDeleted ds ≡ 0 → HolderStands c f ds b
+  pub if-deleted : times holderDeleted ds ≢ 0 → NoHolder c b
 
--- After every list of calls from any fresh ledger and card, of every title granted in it. The log and the buffers are those
--- of one run.
+-- of every title granted in a run
 abbrev pub After : Run → Type 0
-After w = (c : ℕ) (f : Facts) → grant (deeds c (w .log)) ≡ some f → Story c f (deeds c (w .log)) (w .buffers)
+After w = (c : ℕ) (f : Facts) → grant (actions c (w .log)) ≡ some f → TitleClaim c f (actions c (w .log)) (w .buffers)
 
+-- DEMAND 3: after every list of calls from any fresh ledger and card
 abbrev pub History : Type 0
 History =
     (rows application cardApplication : ℕ) → 1 ≤ rows → rows ≤ 999 → (ks : List Request) → After (run ks (start rows application cardApplication))

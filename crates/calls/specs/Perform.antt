@@ -2,20 +2,23 @@
 use Prim.Native.Nat.{ℕ, _<_}
 use mathlib.Core.Path.{_≡_}
 use mathlib.Core.Logic.{_≢_}
-use mathlib.Core.List.{List}
-use mathlib.Core.Bool.{true, cond}
+use mathlib.Core.List.{List, [], _∷_}
+use mathlib.Core.Bool.{cond}
 use lib.Dec.{eqb}
 use lib.ListN.{length, getD}
 use Rattle.formats.specs.declared.request.Request.{Request}
+use Rattle.formats.specs.declared.request.Request.the-variants.{Register, Record, CheckOut, CheckIn, MoveOut, MoveIn, Delete}
 use Rattle.calls.specs.Buffers.{Buffers}
-use Rattle.calls.specs.Refusal.{first, ascendingFrom, FirstToHold, NoneHolds}
+use Rattle.calls.specs.Refusal.{first, numbersOf, FirstToHold, NoneHolds}
 use Rattle.calls.specs.Conditions.{conditions}
 use Rattle.calls.specs.Effect.{effect}
 
+-- an answer, and the buffers after it
 pub record Performed : Type 0 where
   pub answer : ℕ
   pub buffers : Buffers
 
+-- the number of the first condition that holds, or 0
 unfoldable pub refusal : Request → Buffers → ℕ
 refusal k b = first (conditions k b)
 
@@ -23,11 +26,21 @@ refusal k b = first (conditions k b)
 unfoldable pub perform : Request → Buffers → Performed
 perform k b = record { answer = refusal k b; buffers = cond (eqb (refusal k b) 0) (effect k b) b }
 
+-- the numbers that each call can be answered with, "in number order over what it takes"
+abbrev pub checked : Request → List ℕ
+checked (Register c f) = 4 ∷ 6 ∷ 7 ∷ 11 ∷ []
+checked (Record c j f h) = 4 ∷ 5 ∷ 6 ∷ 7 ∷ 8 ∷ 9 ∷ 10 ∷ 11 ∷ []
+checked (CheckOut c j) = 4 ∷ 5 ∷ 7 ∷ 8 ∷ 9 ∷ 10 ∷ 11 ∷ 12 ∷ []
+checked (CheckIn j f1) = 5 ∷ 7 ∷ 8 ∷ 9 ∷ 10 ∷ 11 ∷ 15 ∷ 16 ∷ []
+checked (MoveOut j h f) = 5 ∷ 7 ∷ 8 ∷ 9 ∷ 10 ∷ 11 ∷ 12 ∷ 13 ∷ 16 ∷ []
+checked (MoveIn c j h) = 4 ∷ 5 ∷ 7 ∷ 8 ∷ 9 ∷ 10 ∷ 11 ∷ 12 ∷ 14 ∷ []
+checked (Delete j f) = 5 ∷ 7 ∷ 8 ∷ 9 ∷ 10 ∷ 11 ∷ 16 ∷ []
+
 -- Demand 1, of one call on any buffers: "every call that meets a refusal condition .. gets that number, the first in the
 -- order .., and no byte changes. Accepted then: every other call"
 pub record RefusedFirst (k : Request) (b : Buffers) : Type 0 where
-  -- "go in number order over what it takes"
-  pub in-number-order : ascendingFrom 0 (conditions k b) ≡ true
+  -- its checks are these and "go in number order over what it takes"
+  pub checks : numbersOf (conditions k b) ≡ checked k
   -- a number other than 0 is answered where its condition holds and none before it, and only there
   pub refused : (n : ℕ) → n ≢ 0 → FirstToHold n (conditions k b) → perform k b .answer ≡ n
   pub only-refused : (n : ℕ) → n ≢ 0 → perform k b .answer ≡ n → FirstToHold n (conditions k b)
@@ -52,3 +65,7 @@ pub record InBounds (b after : Buffers) : Type 0 where
   pub titles-length : length (after .titles) ≡ length (b .titles)
   pub rules-length : length (after .rules) ≡ length (b .rules)
   pub stay-bytes : AreBytes b → AreBytes after
+
+-- DEMAND 1, of every call on all buffers, damaged ones included
+abbrev pub Demand1 : Type 0
+Demand1 = (k : Request) (b : Buffers) → RefusedFirst k b × InBounds b (perform k b .buffers)

@@ -3,10 +3,9 @@ use Prim.Native.Nat.{ℕ}
 use mathlib.Core.Path.{_≡_}
 use mathlib.Core.Logic.{_⊎_}
 use mathlib.Core.List.{List, [], _∷_}
-use mathlib.Core.Bool.{Bool, true, false, not, _&&_, cond}
-use lib.Dec.{ltb}
+use mathlib.Core.Bool.{Bool, true, false, not, cond}
 
--- a condition and the number that it is refused with
+-- a condition, and the number that a call that meets it is answered
 pub data Condition : Type 0 where
   _when_ : ℕ → Bool → Condition
 
@@ -21,10 +20,10 @@ unfoldable pub first : List Condition → ℕ
 first [] = 0
 first ((n when b) ∷ rest) = cond b n (first rest)
 
--- "Checks of a call .. go in number order": each condition has a number above those before it, and above 0
-unfoldable pub ascendingFrom : ℕ → List Condition → Bool
-ascendingFrom n [] = true
-ascendingFrom n ((m when b) ∷ rest) = ltb n m && ascendingFrom m rest
+-- the numbers of conditions, in their order
+abbrev pub numbersOf : List Condition → List ℕ
+numbersOf [] = []
+numbersOf ((n when b) ∷ rest) = n ∷ numbersOf rest
 
 -- condition n holds, and none before it
 abbrev pub FirstToHold : ℕ → List Condition → Type 0

@@ -28,14 +28,14 @@ use Rattle.formats.proofs.head.Laws.{fresh-rows, fresh-row, fresh-title, fresh-
 use Rattle.calls.specs.Buffers.{Buffers, rowAt, ruleAt, stateIn, stateAt, kindAt, contentAt, factsAt, isHere, isFull, one, total, fresh}
 use Rattle.calls.specs.Effect.{effect}
 use Rattle.calls.specs.Perform.{perform, AreBytes}
-use Rattle.calls.specs.History.{Answered, Log, lastAt, Deed, deeds, times, grant, Run, next, start, run, fullOf, holders, Holder, in-row, in-entry, Story, History}
+use Rattle.calls.specs.History.{Answered, Log, lastAt, Action, actions, times, grant, Run, next, start, run, fullOf, holders, Holder, in-row, in-entry, TitleClaim, History}
 use Rattle.calls.proofs.Refusals.{unchanged, carried-out}
 use Rattle.calls.proofs.Passed.{passed}
 use Rattle.calls.proofs.InBounds.{in-bounds}
 use Rattle.calls.proofs.Views.{placeBy, placeOf, view, full-entry}
 use Rattle.calls.proofs.History.Totals.{Within, total-same, total-none}
-use Rattle.calls.proofs.History.Titles.{vacant, copyIn, fullIn, Standing, Book, Unborn}
-use Rattle.calls.proofs.History.Step.{At, Inv, kept, copiesIn, fullsIn, holder-found}
+use Rattle.calls.proofs.History.Titles.{vacant, copyIn, fullIn, TitleInvariant, Accounts, NotGranted}
+use Rattle.calls.proofs.History.Step.{At, Invariant, kept, copiesIn, fullsIn, holder-found}
 use Rattle.calls.proofs.History.Calls.{copies-seen, change}
 
 -- THE START
@@ -68,32 +68,32 @@ module _ (rows application cardApplication : ℕ) (low : 1 ≤ rows) (high : row
       ∙ ap (placeOf (replicate 16 0)) (fresh-rule cardApplication j (l .from) (l .to))
       ∙ ap (λ (k : EntryKind). placeBy k (idOf (replicate 16 0)) (entryFacts (replicate 16 0) (replicate 32 0))) kind-zeros
 
-  unborn : (c : ℕ) → Unborn (deeds c []) (copiesIn 999 c (view b₀)) (fullsIn 999 c (view b₀))
-  unfolding deeds times grant
-  unborn c =
+  not-granted : (c : ℕ) → NotGranted (actions c []) (copiesIn 999 c (view b₀)) (fullsIn 999 c (view b₀))
+  unfolding actions times grant
+  not-granted c =
       record {
-        no-deed = λ d. refl;
+        no-action = λ d. refl;
         no-grant = refl;
         no-copy = total-none 999 _ (λ j l. ap (copyIn c) (nothing-there j l));
         no-full = total-none 999 _ (λ j l. ap (fullIn c) (nothing-there j l));
       }
 
-  standing : (c : ℕ) {r : RowState} → Blank r → Standing (deeds c []) (copiesIn 999 c (view b₀)) (fullsIn 999 c (view b₀)) (At 999 c (view b₀)) r
-  standing c empty = unborn c
-  standing c no-row = unborn c
+  title-starts : (c : ℕ) {r : RowState} → Blank r → TitleInvariant (actions c []) (copiesIn 999 c (view b₀)) (fullsIn 999 c (view b₀)) (At 999 c (view b₀)) r
+  title-starts c empty = not-granted c
+  title-starts c no-row = not-granted c
 
-  begins : Inv 999 [] (view b₀)
-  begins = record { titles = λ c. standing c (blank c); agree = λ p l. rw (nothing-there p l) tt }
+  begins : Invariant 999 [] (view b₀)
+  begins = record { titles = λ c. title-starts c (blank c); agree = λ p l. rw (nothing-there p l) tt }
 
   fresh-bytes : AreBytes b₀
   fresh-bytes = record { ledger = fresh-ledger-bytes rows application; titles = fresh-titles-bytes; rules = fresh-rules-bytes cardApplication }
 
 -- THE LIST
 
--- a refused call leaves a title's deeds and what was put at an entry as they were
-refused-deeds : (c : ℕ) (a : Answered) (log : Log) → a .answer ≢ 0 → deeds c (a ∷ log) ≡ deeds c log
-unfolding deeds
-refused-deeds c a log refused = simp (ne-eqb (a .answer) 0 refused)
+-- a refused call leaves a title's actions and what was put at an entry as they were
+refused-actions : (c : ℕ) (a : Answered) (log : Log) → a .answer ≢ 0 → actions c (a ∷ log) ≡ actions c log
+unfolding actions
+refused-actions c a log refused = simp (ne-eqb (a .answer) 0 refused)
 
 refused-last : (j : ℕ) (a : Answered) (log : Log) → a .answer ≢ 0 → lastAt j (a ∷ log) ≡ lastAt j log
 unfolding lastAt
@@ -101,7 +101,7 @@ refused-last j a log refused = simp (ne-eqb (a .answer) 0 refused)
 
 -- what holds after each call
 pub record Sound (w : Run) : Type 0 where
-  pub inv : Inv 999 (w .log) (view (w .buffers))
+  pub inv : Invariant 999 (w .log) (view (w .buffers))
   pub bytes : AreBytes (w .buffers)
 
 goes-on : (k : Request) (w : Run) → Sound w → Sound (next k w)
@@ -109,7 +109,7 @@ goes-on k w s =
     let b = w .buffers in
     record { inv = by (ℕ-discrete (perform k b .answer) 0); bytes = in-bounds k b .stay-bytes (s .bytes) }
   where
-    by : Dec (perform k (w .buffers) .answer ≡ 0) → Inv 999 (next k w .log) (view (perform k (w .buffers) .buffers))
+    by : Dec (perform k (w .buffers) .answer ≡ 0) → Invariant 999 (next k w .log) (view (perform k (w .buffers) .buffers))
     by (yes zero) =
         let b = w .buffers in
         rw (zero, carried-out k b zero)
@@ -118,7 +118,7 @@ goes-on k w s =
         let a : Answered = record { call = k; answer = perform k (w .buffers) .answer } in
         rw (unchanged k (w .buffers) refused)
         record {
-          titles = λ c. rw (refused-deeds c a (w .log) refused) (s .inv .titles c);
+          titles = λ c. rw (refused-actions c a (w .log) refused) (s .inv .titles c);
           agree = λ p l. rw (refused-last p a (w .log) refused) (s .inv .agree p l);
         }
 
@@ -139,47 +139,47 @@ full-counts c Torn id f = refl
 fulls-seen : (c : ℕ) (b : Buffers) → total 999 (λ j. one (fullOf c b j)) ≡ fullsIn 999 c (view b)
 fulls-seen c b = total-same 999 _ _ (λ j l. sym (full-counts c (kindAt b j) (contentAt b j) (factsAt b j)))
 
-module _ (c : ℕ) (f : Facts) (ds : List Deed) (b : Buffers) where
-  from-book : (h : Facts) → Book ds h (copiesIn 999 c (view b)) → holders c b ≡ 1 → Holder c b h → grant ds ≡ some f → Story c f ds b
-  from-book h book one-holder at e =
-      let i : book .given ≡ f = cc in
+module _ (c : ℕ) (f : Facts) (ds : List Action) (b : Buffers) where
+  from-accounts : (h : Facts) → Accounts ds h (copiesIn 999 c (view b)) → holders c b ≡ 1 → Holder c b h → grant ds ≡ some f → TitleClaim c f ds b
+  from-accounts h accounts one-holder at e =
+      let i : accounts .given ≡ f = cc in
       let n = copies-seen c b in
       record {
-        granted-once = book .once f;
-        kept = λ z.
+        granted-once = accounts .once f;
+        unless-deleted = λ z.
             record {
               one-holder = one-holder;
               facts = h;
               holder = at;
-              title-key = rw i at (book .title-key);
-              sti-key = rw i at (book .sti-key);
-              check-outs = rw n (book .out);
-              permits = rw (n, sym i) (book .permits);
-              rights = rw i at (book .rights);
+              title-key = rw i at (accounts .title-key);
+              sti-key = rw i at (accounts .sti-key);
+              check-outs = rw n (accounts .out);
+              permits = rw (n, sym i) (accounts .permits);
+              rights = rw i at (accounts .rights);
             };
-        lost = λ d. absurd (d (book .not-deleted));
+        if-deleted = λ d. absurd (d (accounts .not-deleted));
       }
 
   holder-count : (r : RowState) (m : ℕ) → stateAt b c ≡ r → fullsIn 999 c (view b) ≡ m → holders c b ≡ one (isHere r) + m
   unfolding holders
   holder-count r m row fulls = rw (row, fulls-seen c b, fulls)
 
-  story : (r : RowState) → stateAt b c ≡ r → Standing ds (copiesIn 999 c (view b)) (fullsIn 999 c (view b)) (At 999 c (view b)) r → grant ds ≡ some f → Story c f ds b
-  story Empty row st e = let z : _≡_ {A = ℕ} 0 1 = cc in absurd (omega arith)
-  story (Here h) row st e = from-book h (st .book) (holder-count (Here h) 0 row (st .no-full)) (in-row row) e
-  story Away row st e =
+  title-claim : (r : RowState) → stateAt b c ≡ r → TitleInvariant ds (copiesIn 999 c (view b)) (fullsIn 999 c (view b)) (At 999 c (view b)) r → grant ds ≡ some f → TitleClaim c f ds b
+  title-claim Empty row st e = let z : _≡_ {A = ℕ} 0 1 = cc in absurd (omega arith)
+  title-claim (Here h) row st e = from-accounts h (st .accounts) (holder-count (Here h) 0 row (st .no-full)) (in-row row) e
+  title-claim Away row st e =
       let y = holder-found 999 c (view b) (omega (arith, st .one-full)) in
       let j = y .1 .0 in
       let l = y .1 .1 in
       let u = full-entry (kindAt b j) (contentAt b j) (factsAt b j) c (y .0) (y .1 .2) in
-      from-book (y .0) (rw (st .no-copy) (st .book (y .0) (y .1))) (holder-count Away 1 row (st .one-full)) (in-entry j (l .from) (l .to) (u .0) (u .1) (u .2)) e
-  story Gone row st e =
+      from-accounts (y .0) (rw (st .no-copy) (st .accounts (y .0) (y .1))) (holder-count Away 1 row (st .one-full)) (in-entry j (l .from) (l .to) (u .0) (u .1) (u .2)) e
+  title-claim Gone row st e =
       record {
         granted-once = st .once f;
-        kept = λ z. absurd (st .deleted z);
-        lost = λ d. record { no-holder = holder-count Gone 0 row (st .no-full); no-copy = copies-seen c b ∙ st .no-copy };
+        unless-deleted = λ z. absurd (st .deleted z);
+        if-deleted = λ d. record { no-holder = holder-count Gone 0 row (st .no-full); no-copy = copies-seen c b ∙ st .no-copy };
       }
-  story NoState row st e = let z : _≡_ {A = ℕ} 0 1 = cc in absurd (omega arith)
+  title-claim NoState row st e = let z : _≡_ {A = ℕ} 0 1 = cc in absurd (omega arith)
 
 -- DEMAND 3
 pub history : History
@@ -187,4 +187,4 @@ history rows application cardApplication low high ks c f e =
     let w = run ks (start rows application cardApplication) in
     let s = always ks (start rows application cardApplication)
     (record { inv = begins rows application cardApplication low high; bytes = fresh-bytes rows application cardApplication low high }) in
-    story c f (deeds c (w .log)) (w .buffers) (stateAt (w .buffers) c) refl (s .inv .titles c) e
+    title-claim c f (actions c (w .log)) (w .buffers) (stateAt (w .buffers) c) refl (s .inv .titles c) e

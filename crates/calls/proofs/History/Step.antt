@@ -11,9 +11,9 @@ use Rattle.formats.specs.declared.facts.Facts.{Facts}
 use Rattle.formats.specs.declared.request.Request.{Request}
 use Rattle.formats.specs.declared.row.RowState.{RowState}
 use Rattle.calls.specs.Buffers.{total}
-use Rattle.calls.specs.History.{Answered, Log, Placed, aCopy, theHolder, puts, lastAt, Deed, event, deeds}
+use Rattle.calls.specs.History.{Answered, Log, LastPut, aCopy, theHolder, puts, lastAt, Action, event, actions}
 use Rattle.calls.proofs.History.Totals.{Within, total-same, total-put, total-at, total-some}
-use Rattle.calls.proofs.History.Titles.{Place, vacant, copy, full, copyIn, fullIn, eqb-self, Standing, Turn, own, other, apart}
+use Rattle.calls.proofs.History.Titles.{Place, vacant, copy, full, copyIn, fullIn, eqb-self, TitleInvariant, TitleStep, own, other, unaffected}
 
 -- what the titles' rows and the places are
 pub record State : Type 0 where
@@ -23,18 +23,18 @@ pub record State : Type 0 where
 abbrev pub doneNow : Request → Answered
 doneNow k = record { call = k; answer = 0 }
 
--- what a done call adds to the deeds of its title
-deeds-own : (k : Request) (log : Log) (d : ℕ) (a : Deed) → event k log ≡ record { title = d; deed = a } → deeds d (doneNow k ∷ log) ≡ a ∷ deeds d log
-unfolding deeds
-deeds-own k log d a e = rw (e, eqb-self d)
+-- what a done call adds to the actions of its title
+actions-own : (k : Request) (log : Log) (d : ℕ) (a : Action) → event k log ≡ record { title = d; action = a } → actions d (doneNow k ∷ log) ≡ a ∷ actions d log
+unfolding actions
+actions-own k log d a e = rw (e, eqb-self d)
 
 -- and to those of another: nothing
-deeds-else : (k : Request) (log : Log) (c d : ℕ) (a : Deed) → event k log ≡ record { title = d; deed = a } → c ≢ d → deeds c (doneNow k ∷ log) ≡ deeds c log
-unfolding deeds
-deeds-else k log c d a e ne = rw (e, ne-eqb c d ne)
+actions-else : (k : Request) (log : Log) (c d : ℕ) (a : Action) → event k log ≡ record { title = d; action = a } → c ≢ d → actions c (doneNow k ∷ log) ≡ actions c log
+unfolding actions
+actions-else k log c d a e ne = rw (e, ne-eqb c d ne)
 
 -- what a place has is what the log says was put there last
-abbrev pub Agree : Place → Placed → Type 0
+abbrev pub Agree : Place → LastPut → Type 0
 Agree vacant o = Unit {0}
 Agree (copy c) o = o ≡ aCopy c
 Agree (full c f) o = o ≡ theHolder c
@@ -58,17 +58,17 @@ module _ (N : ℕ) where
   abbrev pub At : ℕ → State → Facts → Type 0
   At c s h = (p : ℕ) × Within N p × (s .places p ≡ full c h)
 
-  pub record Inv (log : Log) (s : State) : Type 0 where
-    pub titles : (c : ℕ) → Standing (deeds c log) (copiesIn c s) (fullsIn c s) (At c s) (s .rows c)
+  pub record Invariant (log : Log) (s : State) : Type 0 where
+    pub titles : (c : ℕ) → TitleInvariant (actions c log) (copiesIn c s) (fullsIn c s) (At c s) (s .rows c)
     pub agree : (p : ℕ) → Within N p → Agree (s .places p) (lastAt p log)
 
   -- what a done call k does, point by point: a change of one title at one place
   pub record Change (k : Request) (log : Log) (s s′ : State) : Type 0 where
     pub title : ℕ
     pub place : ℕ
-    pub deed : Deed
-    pub event-is : event k log ≡ record { title = title; deed = deed }
-    pub turn : Turn title (copiesIn title s) (At title s) deed (s .rows title) (s .places place) (s′ .rows title) (s′ .places place)
+    pub action : Action
+    pub event-is : event k log ≡ record { title = title; action = action }
+    pub step : TitleStep title (copiesIn title s) (At title s) action (s .rows title) (s .places place) (s′ .rows title) (s′ .places place)
     pub rows-else : (c : ℕ) → c ≢ title → s′ .rows c ≡ s .rows c
     pub places-else : (p : ℕ) → Within N p → p ≢ place → s′ .places p ≡ s .places p
     pub touched : Within N place ⊎ (s′ .places place ≡ s .places place)
@@ -110,25 +110,25 @@ module _ (N : ℕ) where
           | no ne ↦ inr (x .0, x .1, sym (ch .places-else (x .0) (x .1) ne) ∙ x .2)
         ]
 
-    own-title : Inv log s
-        → Standing (deeds (ch .title) (doneNow k ∷ log)) (copiesIn (ch .title) s′) (fullsIn (ch .title) s′) (At (ch .title) s′) (s′ .rows (ch .title))
+    own-title : Invariant log s
+        → TitleInvariant (actions (ch .title) (doneNow k ∷ log)) (copiesIn (ch .title) s′) (fullsIn (ch .title) s′) (At (ch .title) s′) (s′ .rows (ch .title))
     own-title inv =
         let d = ch .title in
-        rw (deeds-own k log d (ch .deed) (ch .event-is))
-        (own d (copiesIn d s) (fullsIn d s) (copiesIn d s′) (fullsIn d s′) (At d s) (At d s′) (deeds d log) (ch .turn)
+        rw (actions-own k log d (ch .action) (ch .event-is))
+        (own d (copiesIn d s) (fullsIn d s) (copiesIn d s′) (fullsIn d s′) (At d s) (At d s′) (actions d log) (ch .step)
         (sums (copyIn d)) (sums (fullIn d)) (holder-found d s) (holder-counts d s)
         (λ h x. elim (holder-before d h x) [ inl e ↦ inl (e .1) | inr y ↦ inr y ]) (inv .titles d))
 
-    other-title : (c : ℕ) → c ≢ ch .title → Inv log s
-        → Standing (deeds c (doneNow k ∷ log)) (copiesIn c s′) (fullsIn c s′) (At c s′) (s′ .rows c)
+    other-title : (c : ℕ) → c ≢ ch .title → Invariant log s
+        → TitleInvariant (actions c (doneNow k ∷ log)) (copiesIn c s′) (fullsIn c s′) (At c s′) (s′ .rows c)
     other-title c ne inv =
-        let t = apart c (ch .title) (copiesIn (ch .title) s) (At (ch .title) s) ne (ch .turn) in
-        rw (deeds-else k log c (ch .title) (ch .deed) (ch .event-is) ne, ch .rows-else c ne)
-        (other (deeds c log) (copiesIn c s) (fullsIn c s) (copiesIn c s′) (fullsIn c s′) (At c s) (At c s′) (s .rows c)
+        let t = unaffected c (ch .title) (copiesIn (ch .title) s) (At (ch .title) s) ne (ch .step) in
+        rw (actions-else k log c (ch .title) (ch .action) (ch .event-is) ne, ch .rows-else c ne)
+        (other (actions c log) (copiesIn c s) (fullsIn c s) (copiesIn c s′) (fullsIn c s′) (At c s) (At c s′) (s .rows c)
         (omega (arith, sums (copyIn c), t .copies)) (omega (arith, sums (fullIn c), t .fulls))
         (λ h x. elim (holder-before c h x) [ inl e ↦ (ch .place, e .0, t .holder h (e .1)) | inr y ↦ y ]) (inv .titles c))
 
-    agree-after : (p : ℕ) → Within N p → Inv log s → Agree (s′ .places p) (puts k p (lastAt p log))
+    agree-after : (p : ℕ) → Within N p → Invariant log s → Agree (s′ .places p) (puts k p (lastAt p log))
     agree-after p l inv =
         elim (ℕ-discrete p (ch .place)) [
           | yes e ↦ subst (λ j. Agree (s′ .places j) (puts k j (lastAt j log))) (sym e) (ch .agree-here (subst (Within N) e l))
@@ -136,13 +136,13 @@ module _ (N : ℕ) where
         ]
 
     -- the invariant is kept
-    pub kept : Inv log s → Inv (doneNow k ∷ log) s′
+    pub kept : Invariant log s → Invariant (doneNow k ∷ log) s′
     unfolding lastAt
     kept inv =
         record {
           titles = λ c.
               elim (ℕ-discrete c (ch .title)) [
-                | yes e ↦ subst (λ d. Standing (deeds d (doneNow k ∷ log)) (copiesIn d s′) (fullsIn d s′) (At d s′) (s′ .rows d)) (sym e) (own-title inv)
+                | yes e ↦ subst (λ d. TitleInvariant (actions d (doneNow k ∷ log)) (copiesIn d s′) (fullsIn d s′) (At d s′) (s′ .rows d)) (sym e) (own-title inv)
                 | no ne ↦ other-title c ne inv
               ];
           agree = λ p l. agree-after p l inv;
