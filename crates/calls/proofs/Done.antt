@@ -30,8 +30,8 @@ use Rattle.calls.specs.Buffers.{Buffers, rowAt, titleAt, ruleAt, stateAt
 use Rattle.calls.specs.Effect.{afterMove, setPermits, effect}
 use Rattle.calls.specs.Perform.{AreBytes}
 use Rattle.calls.proofs.Counts.{less-most, more-most}
-use Rattle.calls.proofs.Passed.{are-facts, is-ledger, is-free, is-copy, is-full, is-empty, is-here, is-away, a-state, Passed, OnCard, on-card}
-use Rattle.calls.proofs.Views.{IsRow, in-a-state, state-of-row, row-numbered, row-length, row-written, row-else, placeOf, view, entry-length, copy-place, full-place, wiped-copy-place, wiped-full-place, place-title, place-title-else, place-both, place-both-else}
+use Rattle.calls.proofs.Passed.{are-facts, is-free, is-copy, is-full, is-here, Passed, OnCard, on-card, its-row, away-row}
+use Rattle.calls.proofs.Views.{IsRow, state-of-row, row-numbered, row-length, row-written, row-else, placeOf, view, entry-length, copy-place, full-place, wiped-copy-place, wiped-full-place, place-title, place-title-else, place-both, place-both-else}
 use Rattle.calls.proofs.History.Totals.{Within}
 use Rattle.calls.proofs.History.Titles.{Place, vacant, copy, full}
 
@@ -53,9 +53,8 @@ module _ (b : Buffers) where
     reads : stateOf (rowAt (b .ledger) c) ≡ Here (rowFacts b c)
     in-ranges : Ranges (rowFacts b c)
 
-  here-row : (c : ℕ) → LedgerHead (b .ledger) → stateAt b c ≡ Here (rowFacts b c) → HereRow c
-  here-row c head e =
-      let is = in-a-state (b .ledger) c head (a-state (Here (rowFacts b c)) refl e) in
+  here-row : (c : ℕ) → IsRow (b .ledger) c → stateAt b c ≡ Here (rowFacts b c) → HereRow c
+  here-row c is e =
       let reads = sym (state-of-row (b .ledger) c (is .from) (is .to)) ∙ e in
       record { is-row = is; reads = reads; in-ranges = ranges (here-facts (rowAt (b .ledger) c) reads .passes) }
 
@@ -118,7 +117,7 @@ module _ (b : Buffers) where
   unfolding effect
   register-leaves c f t =
       let g = are-facts f (t 6 .0) in
-      let is = in-a-state (b .ledger) (c .0) (is-ledger (b .ledger) (t 7 .0)) (a-state Empty refl (is-empty (stateAt b (c .0)) (t 11 .0))) in
+      let is = its-row (Register c f) b t in
       record {
         row = row-written (b .ledger) (c .0) is (hereRow f) (here-length f) ∙ state-here f (g .passes) (g .title-key) (g .sti-key);
         place = refl;
@@ -130,9 +129,9 @@ module _ (b : Buffers) where
       → Leaves b (effect (Record c j f h) b) (c .0) (j .0) Away (full (c .0) f)
   unfolding effect
   record-leaves c j f h t =
-      let o = on-card b (j .0) _ (t 5 .0) (t 7 .0) (t 8 .0) (t 9 .0) in
+      let o = on-card (Record c j f h) b t in
       let g = are-facts f (t 6 .0) in
-      let is = in-a-state (b .ledger) (c .0) (o .head) (a-state Empty refl (is-empty (stateAt b (c .0)) (t 11 .0))) in
+      let is = its-row (Record c j f h) b t in
       row-and-halves _ _ _ is o (plain-length 2) (length-titleHalf (f .cci) (f .«title_key») (c .0)) (length-ruleHalf f h (c .0)) state-plain-away
       (full-place (c .0) (row-numbered (b .ledger) (c .0) is) f h (g .in-ranges) (g .title-key) (g .sti-key))
 
@@ -140,9 +139,9 @@ module _ (b : Buffers) where
       → Leaves b (effect (CheckOut c j) b) (c .0) (j .0) (Here (permitting (rowFacts b (c .0)) (oneLess (rowFacts b (c .0) .permits)))) (copy (c .0))
   unfolding effect
   check-out-leaves c j t =
-      let o = on-card b (j .0) _ (t 5 .0) (t 7 .0) (t 8 .0) (t 9 .0) in
+      let o = on-card (CheckOut c j) b t in
       let f = rowFacts b (c .0) in
-      let h = here-row (c .0) (o .head) (is-here (stateAt b (c .0)) (t 11 .0)) in
+      let h = here-row (c .0) (its-row (CheckOut c j) b t) (is-here (stateAt b (c .0)) (t 11 .0)) in
       let unusable = of-free _ _ (is-free (kindAt b (j .0)) (t 10 .0)) .rule-unusable in
       permits-and-title _ h o (less-most (f .permits) (h .in-ranges .permits)) (length-titleHalf (f .cci) (f .«title_key») (c .0))
       (copy-place (c .0) (row-numbered (b .ledger) (c .0) (h .is-row)) (f .cci) (f .«title_key») _ (omega (arith, h .in-ranges .cci)) (h .in-ranges .kind) unusable)
@@ -152,9 +151,9 @@ module _ (b : Buffers) where
       (Here (permitting (rowFacts b (contentAt b (j .0))) (oneMore (rowFacts b (contentAt b (j .0)) .permits)))) vacant
   unfolding effect
   check-in-leaves j f1 t =
-      let o = on-card b (j .0) _ (t 5 .0) (t 7 .0) (t 8 .0) (t 9 .0) in
+      let o = on-card (CheckIn j f1) b t in
       let c = contentAt b (j .0) in
-      let h = here-row c (o .head) (is-here (stateAt b c) (t 11 .0)) in
+      let h = here-row c (its-row (CheckIn j f1) b t) (is-here (stateAt b c) (t 11 .0)) in
       permits-and-title _ h o (more-most (rowFacts b c .permits) (h .in-ranges .permits)) (wiped-title-long (j .0) o f1)
       (wiped-copy-place _ _ f1 (is-copy (kindAt b (j .0)) (t 10 .0)))
 
@@ -162,11 +161,11 @@ module _ (b : Buffers) where
       → Leaves b (effect (MoveOut j h f) b) (contentAt b (j .0)) (j .0) (Here (afterMove (factsAt b (j .0)))) vacant
   unfolding effect
   move-out-leaves j h f are-bytes t =
-      let o = on-card b (j .0) _ (t 5 .0) (t 7 .0) (t 8 .0) (t 9 .0) in
+      let o = on-card (MoveOut j h f) b t in
       let c = contentAt b (j .0) in
       let g = factsAt b (j .0) in
       let i = full-facts (j .0) are-bytes o (is-full (kindAt b (j .0)) (t 10 .0)) in
-      let is = in-a-state (b .ledger) c (o .head) (a-state Away refl (is-away (stateAt b c) (t 11 .0))) in
+      let is = its-row (MoveOut j h f) b t in
       row-and-halves _ _ _ is o (here-length (afterMove g)) (wiped-title-long (j .0) o (f .f1)) (wiped-rule-long (j .0) o f)
       (state-here (afterMove g) (in-range (after-move-ranges g (i .in-ranges))) (i .title-key) (i .sti-key)) (wiped-full-place _ _ f (rule-long (j .0) o))
 
@@ -174,9 +173,9 @@ module _ (b : Buffers) where
       → Leaves b (effect (MoveIn c j h) b) (c .0) (j .0) Away (full (c .0) (afterMove (rowFacts b (c .0))))
   unfolding effect
   move-in-leaves c j h are-bytes t =
-      let o = on-card b (j .0) _ (t 5 .0) (t 7 .0) (t 8 .0) (t 9 .0) in
+      let o = on-card (MoveIn c j h) b t in
       let f = afterMove (rowFacts b (c .0)) in
-      let i = here-row (c .0) (o .head) (is-here (stateAt b (c .0)) (t 11 .0)) in
+      let i = here-row (c .0) (its-row (MoveIn c j h) b t) (is-here (stateAt b (c .0)) (t 11 .0)) in
       let keys = here-keys (rowAt (b .ledger) (c .0)) (i .reads) (row-length (b .ledger) (c .0) (i .is-row)) (bytes-part (b .ledger) (24 * c .0) 24 (are-bytes .ledger)) in
       row-and-halves _ _ _ (i .is-row) o (plain-length 2) (length-titleHalf (f .cci) (f .«title_key») (c .0)) (length-ruleHalf f h (c .0)) state-plain-away
       (full-place (c .0) (row-numbered (b .ledger) (c .0) (i .is-row)) f h (after-move-ranges (rowFacts b (c .0)) (i .in-ranges)) (keys .0) (keys .1))
@@ -199,6 +198,6 @@ module _ (b : Buffers) where
       → Leaves b (effect (Delete j f) b) (contentAt b (j .0)) (j .0) Gone vacant
   unfolding effect
   delete-holder-leaves j f o k e =
-      let is = in-a-state (b .ledger) (contentAt b (j .0)) (o .head) (a-state Away refl e) in
+      let is = away-row b (contentAt b (j .0)) (o .head) e in
       rw (ap isFull k)
       (row-and-halves _ _ _ is o (plain-length 3) (wiped-title-long (j .0) o (f .f1)) (wiped-rule-long (j .0) o f) state-plain-gone (wiped-full-place _ _ f (rule-long (j .0) o)))

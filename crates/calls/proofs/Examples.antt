@@ -32,7 +32,7 @@ use Rattle.formats.proofs.facts.Laws.{in-range, permitting}
 use Rattle.calls.specs.Count.{oneLess, oneMore}
 use Rattle.calls.specs.Buffers.{Buffers, stateAt, rowFacts, hereFacts, kindAt, contentAt, factsAt, isCopy, isHere}
 use Rattle.calls.specs.Refusal.{first}
-use Rattle.calls.specs.Conditions.{arguments, allHeads, mayNotMove, state, conditions}
+use Rattle.calls.specs.Conditions.{argumentConditions, allHeadConditions, mayNotMove, stateConditions, conditions}
 use Rattle.calls.specs.Effect.{afterMove}
 use Rattle.calls.specs.Perform.{perform, AreBytes}
 use Rattle.calls.specs.Examples.{E1, E2, E3, E4, E5, RightsInRow, PermitsInRow, RightsInEntry, Moves, E6, E7, E8, ChecksIn, PassesUntil15, E9, E10, TenExamples}
@@ -168,7 +168,7 @@ only-9 (MoveIn c j h) b lent met = fails (rulesOk b) met
 only-9 (Delete j f) b lent met = fails (rulesOk b) met
 
 -- its conditions after those of its arguments
-card-heads : (k : Request) (b : Buffers) → callOf k ≢ 1 → conditions k b ≡ arguments k ++ (allHeads b ++ state k b)
+card-heads : (k : Request) (b : Buffers) → callOf k ≢ 1 → conditions k b ≡ argumentConditions k ++ (allHeadConditions b ++ stateConditions k b)
 unfolding conditions
 card-heads (Register c f) b lent = absurd (lent refl)
 card-heads (Record c j f h) b lent = refl
@@ -190,8 +190,8 @@ example-7 =
           let wrong : rulesOk b ≡ false = ap (λ (x : Bool). x && sameApplication b) fails in
           answer-first k b
           ∙ ap first (card-heads k b lent)
-          ∙ past (arguments k) (allHeads b ++ state k b) (before .its-arguments)
-          ∙ of-first 9 (allHeads b ++ state k b) (inr (holds-not (before .ledger), inr (holds-not (before .titles), inl (fails-so wrong, refl))));
+          ∙ past (argumentConditions k) (allHeadConditions b ++ stateConditions k b) (before .its-arguments)
+          ∙ of-first 9 (allHeadConditions b ++ stateConditions k b) (inr (holds-not (before .ledger), inr (holds-not (before .titles), inl (fails-so wrong, refl))));
     }
 
 -- usable halves with two IDs, whatever the CCI
@@ -233,9 +233,9 @@ module _ (b : Buffers) (j : EntryNumber) (f1 : ℕ) where
   unfolding conditions
   at-14 before e =
       answer-first (CheckIn j f1) b
-      ∙ past (arguments (CheckIn j f1)) (allHeads b ++ state (CheckIn j f1) b) (before .its-arguments)
-      ∙ past (allHeads b) (state (CheckIn j f1) b) (before .heads)
-      ∙ of-first 15 (state (CheckIn j f1) b) (inr (holds-not (ap isCopy (before .copy)), inr (holds-not (before .here), inl (eq-eqb (rowFacts b its .permits) 14 e, refl))))
+      ∙ past (argumentConditions (CheckIn j f1)) (allHeadConditions b ++ stateConditions (CheckIn j f1) b) (before .its-arguments)
+      ∙ past (allHeadConditions b) (stateConditions (CheckIn j f1) b) (before .heads)
+      ∙ of-first 15 (stateConditions (CheckIn j f1) b) (inr (holds-not (ap isCopy (before .copy)), inr (holds-not (before .here), inl (eq-eqb (rowFacts b its .permits) 14 e, refl))))
 
 -- permits of which one more is `after`
 checks-in : (before after : ℕ) → before ≢ 14 → oneMore before ≡ after → ChecksIn before after

@@ -93,13 +93,13 @@ module _ (b : Buffers) where
 
   check-in-wipes : (j : EntryNumber) (f1 : ℕ) → Passed (CheckIn j f1) b → titleKey (effect (CheckIn j f1) b) (j .0) ≢ titleKey b (j .0)
   unfolding effect
-  check-in-wipes j f1 t = title-gone (j .0) (on-card b (j .0) _ (t 5 .0) (t 7 .0) (t 8 .0) (t 9 .0)) f1 (t 16 .0)
+  check-in-wipes j f1 t = title-gone (j .0) (on-card (CheckIn j f1) b t) f1 (t 16 .0)
 
   move-out-wipes : (j : EntryNumber) (h : ℕ) (f : Fillers) → Passed (MoveOut j h f) b
       → (titleKey (effect (MoveOut j h f) b) (j .0) ≢ titleKey b (j .0)) × (stiKey (effect (MoveOut j h f) b) (j .0) ≢ stiKey b (j .0))
   unfolding effect
   move-out-wipes j h f t =
-      let o = on-card b (j .0) _ (t 5 .0) (t 7 .0) (t 8 .0) (t 9 .0) in
+      let o = on-card (MoveOut j h f) b t in
       let (first-key, second-key) = neither _ _ (t 16 .0) in
       (title-gone (j .0) o (f .f1) first-key, rule-gone (j .0) o f second-key)
 
@@ -108,13 +108,13 @@ module _ (b : Buffers) where
   delete-wipes j f t = by (isFull (kindAt b (j .0)))
     where
       by : (x : Bool) → keyOf (titleAt ((cond x (wipeEntry (j .0) f (withRow (contentAt b (j .0)) (plainRow 3) b)) (wipeTitle (j .0) (f .f1) b)) .titles) (j .0)) ≢ titleKey b (j .0)
-      by true = title-gone (j .0) (on-card b (j .0) _ (t 5 .0) (t 7 .0) (t 8 .0) (t 9 .0)) (f .f1) (neither _ _ (t 16 .0) .0)
-      by false = title-gone (j .0) (on-card b (j .0) _ (t 5 .0) (t 7 .0) (t 8 .0) (t 9 .0)) (f .f1) (neither _ _ (t 16 .0) .0)
+      by true = title-gone (j .0) (on-card (Delete j f) b t) (f .f1) (neither _ _ (t 16 .0) .0)
+      by false = title-gone (j .0) (on-card (Delete j f) b t) (f .f1) (neither _ _ (t 16 .0) .0)
 
   delete-wipes-full : (j : EntryNumber) (f : Fillers) → Passed (Delete j f) b → kindAt b (j .0) ≡ Full → stiKey (effect (Delete j f) b) (j .0) ≢ stiKey b (j .0)
   unfolding effect
   delete-wipes-full j f t k =
-      let o = on-card b (j .0) _ (t 5 .0) (t 7 .0) (t 8 .0) (t 9 .0) in
+      let o = on-card (Delete j f) b t in
       let unless-full : (isFull (kindAt b (j .0)) && leavesKey (f .f2) (ruleAt (b .rules) (j .0))) ≡ false = neither (leavesKey (f .f1) (titleAt (b .titles) (j .0))) _ (t 16 .0) .1 in
       rw (ap isFull k) (rule-gone (j .0) o f (rw (ap isFull k) at unless-full))
 

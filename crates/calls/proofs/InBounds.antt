@@ -27,7 +27,7 @@ use Rattle.calls.specs.Buffers.{Buffers, rowAt, titleAt, ruleAt, stateAt
 use Rattle.calls.specs.Effect.{afterMove, setPermits, writeEntry, wipeTitle, wipeEntry, effect}
 use Rattle.calls.specs.Perform.{perform, Bytes, AreBytes, InBounds, Demand1}
 use Rattle.calls.proofs.Refusals.{unchanged, carried-out, refused-first}
-use Rattle.calls.proofs.Passed.{is-ledger, is-empty, is-here, is-away, a-state, Passed, passed, on-card, a-copy, a-holder, deletes}
+use Rattle.calls.proofs.Passed.{Passed, passed, on-card, its-row, away-row, a-copy, a-holder, deletes}
 use Rattle.calls.proofs.Views.{IsRow, in-a-state, row-inside, row-length, entry-inside, entry-length}
 use Rattle.calls.proofs.History.Totals.{Within}
 
@@ -119,52 +119,39 @@ module _ (b : Buffers) where
 
   done : (k : Request) → Passed k b → InBounds b (effect k b)
   unfolding effect
-  done (Register c f) t =
-      let e = is-empty (stateAt b (c .0)) (t 11 .0) in
-      row-here (c .0) f (in-a-state (b .ledger) (c .0) (is-ledger (b .ledger) (t 7 .0)) (a-state Empty refl e))
+  done (Register c f) t = row-here (c .0) f (its-row (Register c f) b t)
   done (Record c j f h) t =
-      let o = on-card b (j .0) _ (t 5 .0) (t 7 .0) (t 8 .0) (t 9 .0) in
-      let e = is-empty (stateAt b (c .0)) (t 11 .0) in
-      let is = in-a-state (b .ledger) (c .0) (o .head) (a-state Empty refl e) in
-      and-then (row-plain (c .0) 2 (lit< tt) is) (filled (withRow (c .0) (plainRow 2) b) (j .0) (o .entry) (o .titles-long) (o .rules-long) (c .0) f h)
+      let o = on-card (Record c j f h) b t in
+      and-then (row-plain (c .0) 2 (lit< tt) (its-row (Record c j f h) b t)) (filled (withRow (c .0) (plainRow 2) b) (j .0) (o .entry) (o .titles-long) (o .rules-long) (c .0) f h)
   done (CheckOut c j) t =
-      let o = on-card b (j .0) _ (t 5 .0) (t 7 .0) (t 8 .0) (t 9 .0) in
+      let o = on-card (CheckOut c j) b t in
       let f = rowFacts b (c .0) in
-      let e = is-here (stateAt b (c .0)) (t 11 .0) in
-      let is = in-a-state (b .ledger) (c .0) (o .head) (a-state (Here f) refl e) in
       let p = oneLess (f .permits) in
-      and-then (permits-set b (c .0) p is)
+      and-then (permits-set b (c .0) p (its-row (CheckOut c j) b t))
       (title (setPermits (c .0) p b) (j .0) (o .entry) (o .titles-long) (titleHalf (f .cci) (f .«title_key») (c .0)) (length-titleHalf (f .cci) (f .«title_key») (c .0))
       (λ x. title-bytes (f .cci) (f .«title_key») (c .0)))
   done (CheckIn j f1) t =
-      let o = on-card b (j .0) _ (t 5 .0) (t 7 .0) (t 8 .0) (t 9 .0) in
+      let o = on-card (CheckIn j f1) b t in
       let c = contentAt b (j .0) in
-      let e = is-here (stateAt b c) (t 11 .0) in
-      let is = in-a-state (b .ledger) c (o .head) (a-state (Here (rowFacts b c)) refl e) in
       let p = oneMore (rowFacts b c .permits) in
-      and-then (permits-set b c p is) (title-wiped (setPermits c p b) (j .0) (o .entry) (o .titles-long) f1)
+      and-then (permits-set b c p (its-row (CheckIn j f1) b t)) (title-wiped (setPermits c p b) (j .0) (o .entry) (o .titles-long) f1)
   done (MoveOut j h f) t =
-      let o = on-card b (j .0) _ (t 5 .0) (t 7 .0) (t 8 .0) (t 9 .0) in
+      let o = on-card (MoveOut j h f) b t in
       let c = contentAt b (j .0) in
-      let e = is-away (stateAt b c) (t 11 .0) in
-      let is = in-a-state (b .ledger) c (o .head) (a-state Away refl e) in
       let g = afterMove (factsAt b (j .0)) in
-      and-then (row-here c g is) (entry-wiped (withRow c (hereRow g) b) (j .0) (o .entry) (o .titles-long) (o .rules-long) f)
+      and-then (row-here c g (its-row (MoveOut j h f) b t)) (entry-wiped (withRow c (hereRow g) b) (j .0) (o .entry) (o .titles-long) (o .rules-long) f)
   done (MoveIn c j h) t =
-      let o = on-card b (j .0) _ (t 5 .0) (t 7 .0) (t 8 .0) (t 9 .0) in
-      let f = rowFacts b (c .0) in
-      let e = is-here (stateAt b (c .0)) (t 11 .0) in
-      let is = in-a-state (b .ledger) (c .0) (o .head) (a-state (Here f) refl e) in
-      and-then (row-plain (c .0) 2 (lit< tt) is) (filled (withRow (c .0) (plainRow 2) b) (j .0) (o .entry) (o .titles-long) (o .rules-long) (c .0) (afterMove f) h)
+      let o = on-card (MoveIn c j h) b t in
+      let f = afterMove (rowFacts b (c .0)) in
+      and-then (row-plain (c .0) 2 (lit< tt) (its-row (MoveIn c j h) b t)) (filled (withRow (c .0) (plainRow 2) b) (j .0) (o .entry) (o .titles-long) (o .rules-long) (c .0) f h)
   done (Delete j f) t =
-      let o = on-card b (j .0) _ (t 5 .0) (t 7 .0) (t 8 .0) (t 9 .0) in
+      let o = on-card (Delete j f) b t in
       let c = contentAt b (j .0) in
       elim (deletes b (j .0) (t 10 .0) (t 11 .0)) [
         | a-copy k ↦ rw (ap isFull k) (title-wiped b (j .0) (o .entry) (o .titles-long) (f .f1))
         | a-holder k e ↦
-            let is = in-a-state (b .ledger) c (o .head) (a-state Away refl e) in
             rw (ap isFull k)
-            (and-then (row-plain c 3 (lit< tt) is) (entry-wiped (withRow c (plainRow 3) b) (j .0) (o .entry) (o .titles-long) (o .rules-long) f))
+            (and-then (row-plain c 3 (lit< tt) (away-row b c (o .head) e)) (entry-wiped (withRow c (plainRow 3) b) (j .0) (o .entry) (o .titles-long) (o .rules-long) f))
       ]
 
 -- Demand 1: every call, done or refused, "ends in bounds"

@@ -12,6 +12,7 @@ use Rattle.formats.specs.Facts.{inRange}
 use Rattle.formats.specs.Head.{ledgerPasses, titlesPass, rulesPass}
 use Rattle.formats.specs.declared.facts.Facts.{Facts}
 use Rattle.formats.specs.declared.request.Request.{Request}
+use Rattle.formats.specs.declared.request.Request.the-variants.{Register, Record, CheckOut, CheckIn, MoveOut, MoveIn, Delete}
 use Rattle.formats.specs.declared.entry.EntryKind.{EntryKind}
 use Rattle.formats.specs.declared.entry.EntryKind.the-variants.{Free, Copy, Full, Torn}
 use Rattle.formats.specs.declared.row.RowState.{RowState}
@@ -19,10 +20,11 @@ use Rattle.formats.specs.declared.row.RowState.the-variants.{Empty, Here, Away,
 use Rattle.formats.proofs.Tests.{split, both}
 use Rattle.formats.proofs.facts.Laws.{Ranges, ranges}
 use Rattle.formats.proofs.head.Laws.{LedgerHead, ledger-head, titles-length, rules-length}
-use Rattle.calls.specs.Buffers.{Buffers, stateAt, hereFacts, kindAt, contentAt, isFree, isCopy, isFull, isEmpty, isHere, isAway}
-use Rattle.calls.specs.Conditions.{numbered, factsPass, mayNotMove, arguments, heads, state, conditions}
+use Rattle.calls.specs.Buffers.{Buffers, stateAt, rowFacts, hereFacts, kindAt, contentAt, isFree, isCopy, isFull, isEmpty, isHere, isAway}
+use Rattle.calls.specs.Conditions.{numbered, factsPass, mayNotMove, argumentConditions, headConditions, stateConditions, conditions}
 use Rattle.calls.specs.Perform.{perform}
 use Rattle.calls.proofs.Refusals.{none-holds, Unmet, unmet}
+use Rattle.calls.proofs.Views.{IsRow, in-a-state}
 use Rattle.calls.proofs.History.Totals.{Within}
 
 -- the test of 1 to 999
@@ -110,7 +112,7 @@ InState Away = true
 InState Gone = true
 InState NoState = false
 
-pub a-state : {s : RowState} (t : RowState) → InState t ≡ true → s ≡ t → s ≢ NoState
+a-state : {s : RowState} (t : RowState) → InState t ≡ true → s ≡ t → s ≢ NoState
 a-state t some e none = true≢false (sym some ∙ ap InState (sym e ∙ none))
 
 -- 12: neither trigger nor rights forbid a move
@@ -123,7 +125,7 @@ may-move f e = eqb-false _ _ (second (eqb (f .trigger) 1) (eqb (f .rights) 0) e)
 
 -- none of a call's conditions holds: the condition n is named by its number
 abbrev pub Passed : Request → Buffers → Type 0
-Passed k b = (n : ℕ) → Unmet n (arguments k ++ (heads k b ++ state k b))
+Passed k b = (n : ℕ) → Unmet n (argumentConditions k ++ (headConditions k b ++ stateConditions k b))
 
 -- a call that is done has passed all of them
 pub passed : (k : Request) (b : Buffers) → perform k b .answer ≡ 0 → Passed k b
@@ -137,10 +139,58 @@ pub record OnCard (b : Buffers) (j : ℕ) : Type 0 where
   pub titles-long : length (b .titles) ≡ 16000
   pub rules-long : length (b .rules) ≡ 32000
 
-pub on-card : (b : Buffers) (j : ℕ) (same : Bool) → not (numbered j) ≡ false → not (ledgerPasses (b .ledger)) ≡ false → not (titlesPass (b .titles)) ≡ false
+found-right : (b : Buffers) (j : ℕ) (same : Bool) → not (numbered j) ≡ false → not (ledgerPasses (b .ledger)) ≡ false → not (titlesPass (b .titles)) ≡ false
     → not (rulesPass (b .rules) && same) ≡ false → OnCard b j
-on-card b j same n l t r =
+found-right b j same n l t r =
     record { entry = is-numbered j n; head = is-ledger (b .ledger) l; titles-long = is-titles (b .titles) t; rules-long = is-rules (b .rules) same r }
+
+-- so has every call but register, of its entry
+abbrev pub CardOf : Request → Buffers → Type 0
+CardOf (Register c f) b = Unit {0}
+CardOf (Record c j f h) b = OnCard b (j .0)
+CardOf (CheckOut c j) b = OnCard b (j .0)
+CardOf (CheckIn j f1) b = OnCard b (j .0)
+CardOf (MoveOut j h f) b = OnCard b (j .0)
+CardOf (MoveIn c j h) b = OnCard b (j .0)
+CardOf (Delete j f) b = OnCard b (j .0)
+
+pub on-card : (k : Request) (b : Buffers) → Passed k b → CardOf k b
+on-card (Register c f) b t = tt
+on-card (Record c j f h) b t = found-right b (j .0) _ (t 5 .0) (t 7 .0) (t 8 .0) (t 9 .0)
+on-card (CheckOut c j) b t = found-right b (j .0) _ (t 5 .0) (t 7 .0) (t 8 .0) (t 9 .0)
+on-card (CheckIn j f1) b t = found-right b (j .0) _ (t 5 .0) (t 7 .0) (t 8 .0) (t 9 .0)
+on-card (MoveOut j h f) b t = found-right b (j .0) _ (t 5 .0) (t 7 .0) (t 8 .0) (t 9 .0)
+on-card (MoveIn c j h) b t = found-right b (j .0) _ (t 5 .0) (t 7 .0) (t 8 .0) (t 9 .0)
+on-card (Delete j f) b t = found-right b (j .0) _ (t 5 .0) (t 7 .0) (t 8 .0) (t 9 .0)
+
+-- and every call but delete has found its row to be one of the ledger's
+abbrev pub RowOf : Request → Buffers → Type 0
+RowOf (Register c f) b = IsRow (b .ledger) (c .0)
+RowOf (Record c j f h) b = IsRow (b .ledger) (c .0)
+RowOf (CheckOut c j) b = IsRow (b .ledger) (c .0)
+RowOf (CheckIn j f1) b = IsRow (b .ledger) (contentAt b (j .0))
+RowOf (MoveOut j h f) b = IsRow (b .ledger) (contentAt b (j .0))
+RowOf (MoveIn c j h) b = IsRow (b .ledger) (c .0)
+RowOf (Delete j f) b = Unit {0}
+
+-- a row that is away is one
+pub away-row : (b : Buffers) (c : ℕ) → LedgerHead (b .ledger) → stateAt b c ≡ Away → IsRow (b .ledger) c
+away-row b c head e = in-a-state (b .ledger) c head (a-state Away refl e)
+
+empty-row : (b : Buffers) (c : ℕ) → not (ledgerPasses (b .ledger)) ≡ false → not (isEmpty (stateAt b c)) ≡ false → IsRow (b .ledger) c
+empty-row b c l e = in-a-state (b .ledger) c (is-ledger (b .ledger) l) (a-state Empty refl (is-empty (stateAt b c) e))
+
+here-row : (b : Buffers) (c : ℕ) → not (ledgerPasses (b .ledger)) ≡ false → not (isHere (stateAt b c)) ≡ false → IsRow (b .ledger) c
+here-row b c l e = in-a-state (b .ledger) c (is-ledger (b .ledger) l) (a-state (Here (rowFacts b c)) refl (is-here (stateAt b c) e))
+
+pub its-row : (k : Request) (b : Buffers) → Passed k b → RowOf k b
+its-row (Register c f) b t = empty-row b (c .0) (t 7 .0) (t 11 .0)
+its-row (Record c j f h) b t = empty-row b (c .0) (t 7 .0) (t 11 .0)
+its-row (CheckOut c j) b t = here-row b (c .0) (t 7 .0) (t 11 .0)
+its-row (CheckIn j f1) b t = here-row b (contentAt b (j .0)) (t 7 .0) (t 11 .0)
+its-row (MoveOut j h f) b t = away-row b (contentAt b (j .0)) (is-ledger (b .ledger) (t 7 .0)) (is-away (stateAt b (contentAt b (j .0))) (t 11 .0))
+its-row (MoveIn c j h) b t = here-row b (c .0) (t 7 .0) (t 11 .0)
+its-row (Delete j f) b t = tt
 
 -- a delete is of a copy, or of a full entry whose row is away
 pub data Deletes (b : Buffers) (j : ℕ) : Type 0 where

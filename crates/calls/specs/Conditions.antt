@@ -22,33 +22,33 @@ abbrev pub factsPass : Facts → Bool
 factsPass f = inRange f && (keyPasses (f .«title_key») && keyPasses (f .«sti_key»))
 
 -- 4 c not 1 to 999; 5 j not 1 to 999; 6 the facts
-abbrev pub arguments : Request → List Condition
-arguments (Register c f) = 4 unless numbered (c .0) ∷ 6 unless factsPass f ∷ []
-arguments (Record c j f h) = 4 unless numbered (c .0) ∷ 5 unless numbered (j .0) ∷ 6 unless factsPass f ∷ []
-arguments (CheckOut c j) = 4 unless numbered (c .0) ∷ 5 unless numbered (j .0) ∷ []
-arguments (CheckIn j f1) = 5 unless numbered (j .0) ∷ []
-arguments (MoveOut j h f) = 5 unless numbered (j .0) ∷ []
-arguments (MoveIn c j h) = 4 unless numbered (c .0) ∷ 5 unless numbered (j .0) ∷ []
-arguments (Delete j f) = 5 unless numbered (j .0) ∷ []
+abbrev pub argumentConditions : Request → List Condition
+argumentConditions (Register c f) = 4 unless numbered (c .0) ∷ 6 unless factsPass f ∷ []
+argumentConditions (Record c j f h) = 4 unless numbered (c .0) ∷ 5 unless numbered (j .0) ∷ 6 unless factsPass f ∷ []
+argumentConditions (CheckOut c j) = 4 unless numbered (c .0) ∷ 5 unless numbered (j .0) ∷ []
+argumentConditions (CheckIn j f1) = 5 unless numbered (j .0) ∷ []
+argumentConditions (MoveOut j h f) = 5 unless numbered (j .0) ∷ []
+argumentConditions (MoveIn c j h) = 4 unless numbered (c .0) ∷ 5 unless numbered (j .0) ∷ []
+argumentConditions (Delete j f) = 5 unless numbered (j .0) ∷ []
 
 -- 7 ledger length or head wrong; 8 title table length or head wrong; 9 rule table likewise, its application number other
 -- than the ledger's included
-abbrev pub allHeads : Buffers → List Condition
-allHeads b =
+abbrev pub allHeadConditions : Buffers → List Condition
+allHeadConditions b =
     7 unless ledgerPasses (b .ledger)
     ∷ 8 unless titlesPass (b .titles)
     ∷ 9 unless (rulesPass (b .rules) && eqb (rulesApplication (b .rules)) (ledgerApplication (b .ledger)))
     ∷ []
 
 -- "Register is lent the ledger only."
-abbrev pub heads : Request → Buffers → List Condition
-heads (Register c f) b = 7 unless ledgerPasses (b .ledger) ∷ []
-heads (Record c j f h) b = allHeads b
-heads (CheckOut c j) b = allHeads b
-heads (CheckIn j f1) b = allHeads b
-heads (MoveOut j h f) b = allHeads b
-heads (MoveIn c j h) b = allHeads b
-heads (Delete j f) b = allHeads b
+abbrev pub headConditions : Request → Buffers → List Condition
+headConditions (Register c f) b = 7 unless ledgerPasses (b .ledger) ∷ []
+headConditions (Record c j f h) b = allHeadConditions b
+headConditions (CheckOut c j) b = allHeadConditions b
+headConditions (CheckIn j f1) b = allHeadConditions b
+headConditions (MoveOut j h f) b = allHeadConditions b
+headConditions (MoveIn c j h) b = allHeadConditions b
+headConditions (Delete j f) b = allHeadConditions b
 
 -- "trigger 1 or rights 0"
 abbrev pub mayNotMove : Facts → Bool
@@ -62,39 +62,39 @@ leavesKey filler half = eqb (filler % 2 ^ 56) (keyOf half)
 -- with trigger 1 or rights 0 (the entry's on a move out, the row's on a move in); 13 move out: h differs from the stored
 -- C_HASH; 14 move in: a copy of c on the card; 15 check-in: permits are 14; 16 f1 leaves the title key, or (full entries)
 -- f2 the STI key
-abbrev pub state : Request → Buffers → List Condition
-state (Register c f) b =
+abbrev pub stateConditions : Request → Buffers → List Condition
+stateConditions (Register c f) b =
     11 unless isEmpty (stateAt b (c .0))
     ∷ []
-state (Record c j f h) b =
+stateConditions (Record c j f h) b =
     10 unless isFree (kindAt b (j .0))
     ∷ 11 unless isEmpty (stateAt b (c .0))
     ∷ []
-state (CheckOut c j) b =
+stateConditions (CheckOut c j) b =
     10 unless isFree (kindAt b (j .0))
     ∷ 11 unless isHere (stateAt b (c .0))
     ∷ 12 when eqb (rowFacts b (c .0) .permits) 0
     ∷ []
-state (CheckIn j f1) b =
+stateConditions (CheckIn j f1) b =
     10 unless isCopy (kindAt b (j .0))
     ∷ 11 unless isHere (stateAt b (contentAt b (j .0)))
     ∷ 15 when eqb (rowFacts b (contentAt b (j .0)) .permits) 14
     ∷ 16 when leavesKey f1 (titleAt (b .titles) (j .0))
     ∷ []
-state (MoveOut j h f) b =
+stateConditions (MoveOut j h f) b =
     10 unless isFull (kindAt b (j .0))
     ∷ 11 unless isAway (stateAt b (contentAt b (j .0)))
     ∷ 12 when mayNotMove (factsAt b (j .0))
     ∷ 13 unless eqb h (hashOf (ruleAt (b .rules) (j .0)))
     ∷ 16 when (leavesKey (f .f1) (titleAt (b .titles) (j .0)) || leavesKey (f .f2) (ruleAt (b .rules) (j .0)))
     ∷ []
-state (MoveIn c j h) b =
+stateConditions (MoveIn c j h) b =
     10 unless isFree (kindAt b (j .0))
     ∷ 11 unless isHere (stateAt b (c .0))
     ∷ 12 when mayNotMove (rowFacts b (c .0))
     ∷ 14 unless eqb (copies (c .0) (b .titles) (b .rules)) 0
     ∷ []
-state (Delete j f) b =
+stateConditions (Delete j f) b =
     10 unless (isCopy (kindAt b (j .0)) || isFull (kindAt b (j .0)))
     ∷ 11 when (isFull (kindAt b (j .0)) && not (isAway (stateAt b (contentAt b (j .0)))))
     ∷ 16 when (leavesKey (f .f1) (titleAt (b .titles) (j .0)) || (isFull (kindAt b (j .0)) && leavesKey (f .f2) (ruleAt (b .rules) (j .0))))
@@ -102,4 +102,4 @@ state (Delete j f) b =
 
 -- all of them, in number order
 unfoldable pub conditions : Request → Buffers → List Condition
-conditions k b = arguments k ++ (heads k b ++ state k b)
+conditions k b = argumentConditions k ++ (headConditions k b ++ stateConditions k b)

@@ -21,7 +21,7 @@ use Rattle.formats.specs.declared.request.RequestRead.the-variants.{Read, Refus
 use Rattle.formats.specs.declared.entry.EntryKind.the-variants.{Copy, Full, Torn}
 use Rattle.calls.specs.Buffers.{Buffers, stateAt, rowFacts, kindAt, contentAt, factsAt, isHere}
 use Rattle.calls.specs.Refusal.{NoneHolds}
-use Rattle.calls.specs.Conditions.{arguments, allHeads}
+use Rattle.calls.specs.Conditions.{argumentConditions, allHeadConditions}
 use Rattle.calls.specs.Perform.{perform, AreBytes}
 
 -- a number and its bytes, as it is written and as it is read
@@ -109,7 +109,7 @@ pub record PassesButVersion (b : Buffers) : Type 0 where
 
 -- the checks of a call before that of the rule table pass
 pub record PassesUntil9 (k : Request) (b : Buffers) : Type 0 where
-  pub its-arguments : NoneHolds (arguments k)
+  pub its-arguments : NoneHolds (argumentConditions k)
   pub ledger : ledgerPasses (b .ledger) ≡ true
   pub titles : titlesPass (b .titles) ≡ true
 
@@ -135,8 +135,8 @@ pub record ChecksIn (before after : ℕ) : Type 0 where
 
 -- the checks of a check-in before that of the permits pass
 pub record PassesUntil15 (b : Buffers) (j : EntryNumber) (f1 : ℕ) : Type 0 where
-  pub its-arguments : NoneHolds (arguments (CheckIn j f1))
-  pub heads : NoneHolds (allHeads b)
+  pub its-arguments : NoneHolds (argumentConditions (CheckIn j f1))
+  pub heads : NoneHolds (allHeadConditions b)
   pub copy : kindAt b (j .0) ≡ Copy
   pub here : isHere (stateAt b (contentAt b (j .0))) ≡ true
 

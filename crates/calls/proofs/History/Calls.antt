@@ -108,7 +108,7 @@ module _ (log : Log) (b : Buffers) (inv : Invariant 999 log (view b)) (are-bytes
       (is-here (stateAt b (c .0)) (t 11 .0)) (place-is (j .0) (is-free (kindAt b (j .0)) (t 10 .0))) refl refl)
       (simp (eqb-self (j .0))) (λ i ne. simp (ne-eqb i (j .0) ne))
   change (Delete j f) t =
-      let o = on-card b (j .0) _ (t 5 .0) (t 7 .0) (t 8 .0) (t 9 .0) in
+      let o = on-card (Delete j f) b t in
       elim (deletes b (j .0) (t 10 .0) (t 11 .0)) [
         | a-copy k ↦
             wrote (Delete j f) copyDeleted (o .entry) (delete-copy-leaves b j f o k) (rw (placed-copy (j .0) (o .entry) k))
