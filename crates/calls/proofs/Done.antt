@@ -16,14 +16,13 @@ use Rattle.formats.specs.declared.facts.Fillers.{Fillers}
 use Rattle.formats.specs.declared.request.Request.the-variants.{Register, Record, CheckOut, CheckIn, MoveOut, MoveIn, Delete}
 use Rattle.formats.specs.declared.entry.EntryKind.the-variants.{Copy, Full}
 use Rattle.formats.specs.declared.row.RowState.{RowState}
-use Rattle.formats.specs.declared.row.RowState.the-variants.{Empty, Here, Away, Gone}
+use Rattle.formats.specs.declared.row.RowState.the-variants.{Here, Away, Gone}
 use Rattle.formats.proofs.Bytes.{bytes-part}
 use Rattle.formats.proofs.facts.Laws.{Ranges, ranges, in-range, permitting}
 use Rattle.formats.proofs.half.Laws.{wiped-length}
 use Rattle.formats.proofs.title.Laws.{length-titleHalf}
 use Rattle.formats.proofs.rule.Laws.{length-ruleHalf, wipedRule-length}
 use Rattle.formats.proofs.entry.Laws.{of-free, of-full, entry-facts-range, entry-keys}
-use Rattle.formats.proofs.head.Laws.{LedgerHead}
 use Rattle.formats.proofs.row.Laws.{here-length, plain-length, permits-length, state-here, state-plain-away, state-plain-gone, state-permits, here-facts, here-keys}
 use Rattle.calls.specs.Count.{oneLess, oneMore}
 use Rattle.calls.specs.Buffers.{Buffers, rowAt, titleAt, ruleAt, stateAt, rowFacts, kindAt, contentAt, factsAt, isFull, withRow, withTitle, withRule}
@@ -48,15 +47,19 @@ after-move-ranges f r = record { cci = r .cci; kind = r .kind; trigger = r .trig
 
 module _ (b : Buffers) where
   -- a row that is here, as its bytes say
-  record HereRow (c : ℕ) : Type 0 where
-    is-row : IsRow (b .ledger) c
-    reads : stateOf (rowAt (b .ledger) c) ≡ Here (rowFacts b c)
-    in-ranges : Ranges (rowFacts b c)
+  pub record HereRow (c : ℕ) : Type 0 where
+    pub is-row : IsRow (b .ledger) c
+    pub reads : stateOf (rowAt (b .ledger) c) ≡ Here (rowFacts b c)
+    pub in-ranges : Ranges (rowFacts b c)
 
-  here-row : (c : ℕ) → IsRow (b .ledger) c → stateAt b c ≡ Here (rowFacts b c) → HereRow c
+  pub here-row : (c : ℕ) → IsRow (b .ledger) c → stateAt b c ≡ Here (rowFacts b c) → HereRow c
   here-row c is e =
       let reads = sym (state-of-row (b .ledger) c (is .from) (is .to)) ∙ e in
       record { is-row = is; reads = reads; in-ranges = ranges (here-facts (rowAt (b .ledger) c) reads .passes) }
+
+  -- its keys, where the ledger holds bytes
+  pub row-keys : (c : ℕ) → AreBytes b → HereRow c → (rowFacts b c .«title_key» < 2 ^ 56) × (rowFacts b c .«sti_key» < 2 ^ 56)
+  row-keys c are-bytes h = here-keys (rowAt (b .ledger) c) (h .reads) (row-length (b .ledger) c (h .is-row)) (bytes-part (b .ledger) (24 * c) 24 (are-bytes .ledger))
 
   -- ROW AND ENTRY WRITTEN: what each way of writing them leaves
 
@@ -176,7 +179,7 @@ module _ (b : Buffers) where
       let o = on-card (MoveIn c j h) b t in
       let f = afterMove (rowFacts b (c .0)) in
       let i = here-row (c .0) (its-row (MoveIn c j h) b t) (is-here (stateAt b (c .0)) (t 11 .0)) in
-      let keys = here-keys (rowAt (b .ledger) (c .0)) (i .reads) (row-length (b .ledger) (c .0) (i .is-row)) (bytes-part (b .ledger) (24 * c .0) 24 (are-bytes .ledger)) in
+      let keys = row-keys (c .0) are-bytes i in
       row-and-halves _ _ _ (i .is-row) o (plain-length 2) (length-titleHalf (f .cci) (f .«title_key») (c .0)) (length-ruleHalf f h (c .0)) state-plain-away
       (full-place (c .0) (row-numbered (b .ledger) (c .0) (i .is-row)) f h (after-move-ranges (rowFacts b (c .0)) (i .in-ranges)) (keys .0) (keys .1))
 

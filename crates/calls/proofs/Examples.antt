@@ -36,7 +36,7 @@ use Rattle.calls.specs.Conditions.{argumentConditions, allHeadConditions
 use Rattle.calls.specs.Effect.{afterMove}
 use Rattle.calls.specs.Perform.{perform, AreBytes}
 use Rattle.calls.specs.Examples.{E1, E2, E3, E4, E5, RightsInRow, PermitsInRow, RightsInEntry, Moves, E6, E7, E8, ChecksIn, PassesUntil15, E9, E10, TenExamples}
-use Rattle.calls.proofs.Refusals.{past, of-first, meets, answer-first, refused-by, carried-out, holds-not, fails-so}
+use Rattle.calls.proofs.Refusals.{alone, past, of-first, meets, answer-first, refused-by, carried-out, holds-not, fails-so}
 use Rattle.calls.proofs.Views.{view, full-entry}
 use Rattle.calls.proofs.Passed.{passed}
 use Rattle.calls.proofs.Done.{check-in-leaves, move-out-leaves, move-in-leaves}
@@ -74,11 +74,6 @@ rights-in b c f is e = record { here = ap isHere is; are = ap (λ (s : RowState)
 
 permits-in : (b : Buffers) (c : ℕ) (f : Facts) {n : ℕ} → stateAt b c ≡ Here f → f .permits ≡ n → PermitsInRow b c n
 permits-in b c f is e = record { here = ap isHere is; are = ap (λ (s : RowState). hereFacts s .permits) is ∙ e }
-
--- a test that is the only condition of its number
-alone : (x : Bool) → (x || false) ≡ true → x ≡ true
-alone true e = refl
-alone false e = e
 
 -- a test of which only the failing is a condition
 fails : (x : Bool) → (not x || false) ≡ true → x ≡ false

@@ -2,18 +2,19 @@
 -- Assumes nothing.
 use Prim.Native.Nat.{ℕ, _*_}
 use mathlib.Core.Path.{_≡_, refl, sym, ap, _∙_}
-use mathlib.Core.Logic.{_≢_, inl}
+use mathlib.Core.Logic.{_≢_}
 use mathlib.Core.List.{List}
-use mathlib.Core.Option.{some}
 use mathlib.Core.Bool.{Bool, true, false, not, _&&_, _||_, true≢false, cond}
 use native.Mathlib.Omega.{arith}
 use lib.Dec.{eqb}
-use borrow.Author.Tests.{eqb-true, eqb-false, not-false}
+use borrow.Author.Tests.{ne-eqb, eqb-true, eqb-false, not-false}
 use Rattle.formats.specs.Part.{put}
 use Rattle.formats.specs.Half.{keyOf, wiped}
 use Rattle.formats.specs.Rule.{wipedRule}
-use Rattle.formats.specs.Head.{rulesPass, ledgerApplication, rulesApplication}
-use Rattle.formats.specs.Request.{kindOf}
+use Rattle.formats.specs.Facts.{cciPasses, triggerPasses, countPasses, keyPasses, inRange}
+use Rattle.formats.specs.Refusal.{unless}
+use Rattle.formats.specs.Head.{ledgerPasses, ledgerApplication, titlesPass, rulesPass, rulesApplication}
+use Rattle.formats.specs.Request.{kindOf, factArguments, factValues, schema, firstLimit, limitOf}
 use Rattle.formats.specs.declared.facts.Facts.{Facts}
 use Rattle.formats.specs.declared.facts.ContentId.{ContentId}
 use Rattle.formats.specs.declared.facts.EntryNumber.{EntryNumber}
@@ -25,12 +26,13 @@ use Rattle.formats.proofs.Tests.{split}
 use Rattle.formats.proofs.half.Laws.{half-wiped, wiped-key-gone}
 use Rattle.formats.proofs.rule.Laws.{rule-wiped}
 use Rattle.calls.specs.Buffers.{Buffers, titleAt, ruleAt, kindAt, isFull, contentAt, factsAt, rowFacts, withRow}
-use Rattle.calls.specs.Conditions.{numbered, mayNotMove, leavesKey, conditions}
+use Rattle.calls.specs.Refusal.{first}
+use Rattle.calls.specs.Conditions.{numbered, factsPass, argumentConditions, mayNotMove, leavesKey, conditions}
 use Rattle.calls.specs.Effect.{effect, wipeEntry, wipeTitle}
 use Rattle.formats.specs.Row.{hereRow, plainRow}
 use Rattle.calls.specs.Perform.{refusal, perform}
-use Rattle.calls.specs.Guards.{titleNamed, withCard, titleKey, stiKey, Guards}
-use Rattle.calls.proofs.Refusals.{answer-first, of-first, fails-so, carried-out}
+use Rattle.calls.specs.Guards.{withCard, titleKey, stiKey, Guards}
+use Rattle.calls.proofs.Refusals.{alone, refused-by, carried-out}
 use Rattle.calls.proofs.Passed.{Passed, passed, OnCard, on-card}
 use Rattle.calls.proofs.Views.{entry-same}
 use Rattle.calls.proofs.Done.{rule-long, wiped-title-long, wiped-rule-long}
@@ -40,17 +42,44 @@ neither : (a b : Bool) → (a || b) ≡ false → (a ≡ false) × (b ≡ false)
 neither true b e = absurd (true≢false e)
 neither false b e = (refl, e)
 
-module _ (b : Buffers) where
-  no-title : (k : Request) (c : ℕ) → titleNamed k ≡ some c → numbered c ≡ false → perform k b .answer ≡ 4
-  unfolding conditions
-  no-title (Register c f) d e outside = let i : d ≡ c .0 = cc in answer-first (Register c f) b ∙ of-first 4 _ (inl (fails-so (rw i at outside), refl))
-  no-title (Record c j f h) d e outside = let i : d ≡ c .0 = cc in answer-first (Record c j f h) b ∙ of-first 4 _ (inl (fails-so (rw i at outside), refl))
-  no-title (CheckOut c j) d e outside = let i : d ≡ c .0 = cc in answer-first (CheckOut c j) b ∙ of-first 4 _ (inl (fails-so (rw i at outside), refl))
-  no-title (CheckIn j f1) d e outside = let z : _≡_ {A = ℕ} 0 1 = cc in absurd (omega arith)
-  no-title (MoveOut j h f) d e outside = let z : _≡_ {A = ℕ} 0 1 = cc in absurd (omega arith)
-  no-title (MoveIn c j h) d e outside = let i : d ≡ c .0 = cc in answer-first (MoveIn c j h) b ∙ of-first 4 _ (inl (fails-so (rw i at outside), refl))
-  no-title (Delete j f) d e outside = let z : _≡_ {A = ℕ} 0 1 = cc in absurd (omega arith)
+-- 4 to 6 as the reader and the writer of requests test them: one test
+one-limit : (x : Bool) (n : ℕ) {rest limits : ℕ} → n ≢ 0 → rest ≡ limits → cond (not x) n rest ≡ cond (eqb (unless x n) 0) limits (unless x n)
+one-limit true n other e = e
+one-limit false n {limits = limits} other e = sym (ap (λ (x : Bool). cond x limits n) (ne-eqb n 0 other))
 
+-- and the six tests of facts, of which each is refused with 6
+six-limits : (f : Facts) → cond (not (factsPass f)) 6 0 ≡ firstLimit factArguments (factValues f)
+unfolding firstLimit inRange
+six-limits f = by (cciPasses (f .cci)) (triggerPasses (f .trigger)) (countPasses (f .rights)) (countPasses (f .permits)) (keyPasses (f .«title_key»)) (keyPasses (f .«sti_key»))
+  where
+    by : (a b c d e g : Bool)
+        → cond (not ((a && (b && (c && d))) && (e && g))) 6 0
+        ≡ cond (eqb (unless a 6) 0)
+        (cond (eqb (unless b 6) 0)
+        (cond (eqb (unless c 6) 0)
+        (cond (eqb (unless d 6) 0) (cond (eqb (unless e 6) 0) (cond (eqb (unless g 6) 0) 0 (unless g 6)) (unless e 6)) (unless d 6)) (unless c 6))
+        (unless b 6))
+        (unless a 6)
+    by false b c d e g = refl
+    by true false c d e g = refl
+    by true true false d e g = refl
+    by true true true false e g = refl
+    by true true true true false g = refl
+    by true true true true true false = refl
+    by true true true true true true = refl
+
+limits-agree : (k : Request) → first (argumentConditions k) ≡ limitOf k
+unfolding first limitOf firstLimit schema inRange
+limits-agree (Register c f) = one-limit (numbered (c .0)) 4 (λ e. omega arith) (six-limits f)
+limits-agree (Record c j f h) =
+    one-limit (numbered (c .0)) 4 (λ e. omega arith) (one-limit (numbered (j .0)) 5 (λ e. omega arith) (six-limits f))
+limits-agree (CheckOut c j) = one-limit (numbered (c .0)) 4 (λ e. omega arith) (one-limit (numbered (j .0)) 5 (λ e. omega arith) refl)
+limits-agree (CheckIn j f1) = one-limit (numbered (j .0)) 5 (λ e. omega arith) refl
+limits-agree (MoveOut j h f) = one-limit (numbered (j .0)) 5 (λ e. omega arith) refl
+limits-agree (MoveIn c j h) = one-limit (numbered (c .0)) 4 (λ e. omega arith) (one-limit (numbered (j .0)) 5 (λ e. omega arith) refl)
+limits-agree (Delete j f) = one-limit (numbered (j .0)) 5 (λ e. omega arith) refl
+
+module _ (b : Buffers) where
   ledger-alone : (c : ContentId) (f : Facts) (titles rules : List ℕ)
       → (perform (Register c f) (withCard titles rules b) .answer ≡ perform (Register c f) b .answer)
       × (perform (Register c f) (withCard titles rules b) .buffers .ledger ≡ perform (Register c f) b .buffers .ledger)
@@ -62,19 +91,40 @@ module _ (b : Buffers) where
       either-way true = refl
       either-way false = refl
 
-  -- the application numbers are the same where condition 9 does not hold
-  same-application : not (rulesPass (b .rules) && eqb (rulesApplication (b .rules)) (ledgerApplication (b .ledger))) ≡ false
-      → rulesApplication (b .rules) ≡ ledgerApplication (b .ledger)
-  same-application e = eqb-true _ _ (split (rulesPass (b .rules)) _ (not-false _ e) .1)
+  -- what a done call has found of the heads
+  right-ledger : (k : Request) → Passed k b → ledgerPasses (b .ledger) ≡ true
+  right-ledger (Register c f) t = not-false _ (t 7 .0)
+  right-ledger (Record c j f h) t = not-false _ (t 7 .0)
+  right-ledger (CheckOut c j) t = not-false _ (t 7 .0)
+  right-ledger (CheckIn j f1) t = not-false _ (t 7 .0)
+  right-ledger (MoveOut j h f) t = not-false _ (t 7 .0)
+  right-ledger (MoveIn c j h) t = not-false _ (t 7 .0)
+  right-ledger (Delete j f) t = not-false _ (t 7 .0)
 
-  done-here : (k : Request) → kindOf k ≢ 1 → Passed k b → rulesApplication (b .rules) ≡ ledgerApplication (b .ledger)
-  done-here (Register c f) lent t = absurd (lent refl)
-  done-here (Record c j f h) lent t = same-application (t 9 .0)
-  done-here (CheckOut c j) lent t = same-application (t 9 .0)
-  done-here (CheckIn j f1) lent t = same-application (t 9 .0)
-  done-here (MoveOut j h f) lent t = same-application (t 9 .0)
-  done-here (MoveIn c j h) lent t = same-application (t 9 .0)
-  done-here (Delete j f) lent t = same-application (t 9 .0)
+  -- and one that is lent the card
+  record RightCard : Type 0 where
+    titles : titlesPass (b .titles) ≡ true
+    rules : rulesPass (b .rules) ≡ true
+    application : rulesApplication (b .rules) ≡ ledgerApplication (b .ledger)
+
+  card-right : not (titlesPass (b .titles)) ≡ false → not (rulesPass (b .rules) && eqb (rulesApplication (b .rules)) (ledgerApplication (b .ledger))) ≡ false → RightCard
+  card-right t r =
+      let (rules, application) = split (rulesPass (b .rules)) _ (not-false _ r) in
+      record { titles = not-false _ t; rules = rules; application = eqb-true _ _ application }
+
+  right-card : (k : Request) → kindOf k ≢ 1 → Passed k b → RightCard
+  right-card (Register c f) lent t = absurd (lent refl)
+  right-card (Record c j f h) lent t = card-right (t 8 .0) (t 9 .0)
+  right-card (CheckOut c j) lent t = card-right (t 8 .0) (t 9 .0)
+  right-card (CheckIn j f1) lent t = card-right (t 8 .0) (t 9 .0)
+  right-card (MoveOut j h f) lent t = card-right (t 8 .0) (t 9 .0)
+  right-card (MoveIn c j h) lent t = card-right (t 8 .0) (t 9 .0)
+  right-card (Delete j f) lent t = card-right (t 8 .0) (t 9 .0)
+
+  -- a check-out is refused with 12 at permits 0 only
+  only-12 : (c : ContentId) (j : EntryNumber) → perform (CheckOut c j) b .answer ≡ 12 → rowFacts b (c .0) .permits ≡ 0
+  unfolding conditions
+  only-12 c j e = eqb-true _ 0 (alone (eqb (rowFacts b (c .0) .permits) 0) (refused-by (CheckOut c j) b 12 (λ z. omega arith) e))
 
   not-triggered : (f : Facts) → mayNotMove f ≡ false → f .trigger ≢ 1
   not-triggered f e = eqb-false _ _ (neither _ _ e .0)
@@ -122,14 +172,18 @@ module _ (b : Buffers) where
   pub guards : Guards b
   guards =
       record {
-        no-such-title = no-title;
+        limits = limits-agree;
         ledger-only = ledger-alone;
-        other-application = λ k lent other e. other (done-here k lent (passed k b e));
+        wrong-ledger = λ k wrong e. true≢false (sym (right-ledger k (passed k b e)) ∙ wrong);
+        wrong-titles = λ k lent wrong e. true≢false (sym (right-card k lent (passed k b e) .titles) ∙ wrong);
+        wrong-rules = λ k lent wrong e. true≢false (sym (right-card k lent (passed k b e) .rules) ∙ wrong);
+        other-application = λ k lent other e. other (right-card k lent (passed k b e) .application);
+        permit-left = λ c j left e. left (only-12 c j e);
         triggered-out = λ j h f is e. not-triggered (factsAt b (j .0)) (passed (MoveOut j h f) b e 12 .0) is;
         triggered-in = λ c j h is e. not-triggered (rowFacts b (c .0)) (passed (MoveIn c j h) b e 12 .0) is;
         other-hash = λ j h f other e. other (eqb-true _ _ (not-false _ (passed (MoveOut j h f) b e 13 .0)));
-        checked-in = λ j f1 e. rw (carried-out (CheckIn j f1) b e) (check-in-wipes j f1 (passed (CheckIn j f1) b e));
-        moved-out = λ j h f e. rw (carried-out (MoveOut j h f) b e) (move-out-wipes j h f (passed (MoveOut j h f) b e));
-        deleted = λ j f e. rw (carried-out (Delete j f) b e) (delete-wipes j f (passed (Delete j f) b e));
-        deleted-full = λ j f e k. rw (carried-out (Delete j f) b e) (delete-wipes-full j f (passed (Delete j f) b e) k);
+        check-in-wipes = λ j f1 e. rw (carried-out (CheckIn j f1) b e) (check-in-wipes j f1 (passed (CheckIn j f1) b e));
+        move-out-wipes = λ j h f e. rw (carried-out (MoveOut j h f) b e) (move-out-wipes j h f (passed (MoveOut j h f) b e));
+        delete-wipes = λ j f e. rw (carried-out (Delete j f) b e) (delete-wipes j f (passed (Delete j f) b e));
+        delete-wipes-full = λ j f e k. rw (carried-out (Delete j f) b e) (delete-wipes-full j f (passed (Delete j f) b e) k);
       }

@@ -15,7 +15,6 @@ use Rattle.formats.specs.declared.facts.Facts.{Facts}
 use Rattle.formats.specs.declared.facts.Fillers.{Fillers}
 use Rattle.formats.specs.declared.request.Request.{Request}
 use Rattle.formats.specs.declared.request.Request.the-variants.{Register, Record, CheckOut, CheckIn, MoveOut, MoveIn, Delete}
-use Rattle.formats.specs.declared.row.RowState.the-variants.{Empty, Here, Away}
 use Rattle.formats.proofs.Part.{put-length}
 use Rattle.formats.proofs.Bytes.{listed, bytes-part, bytes-put}
 use Rattle.formats.proofs.half.Laws.{wiped-length, wiped-bytes}
@@ -23,12 +22,12 @@ use Rattle.formats.proofs.title.Laws.{length-titleHalf, title-bytes}
 use Rattle.formats.proofs.rule.Laws.{length-ruleHalf, rule-bytes, wipedRule-length, wipedRule-bytes}
 use Rattle.formats.proofs.row.Laws.{here-length, here-bytes, plain-length, plain-bytes, permits-length, permits-bytes}
 use Rattle.calls.specs.Count.{oneLess, oneMore}
-use Rattle.calls.specs.Buffers.{Buffers, rowAt, titleAt, ruleAt, stateAt, rowFacts, contentAt, factsAt, isFull, withRow, withTitle, withRule}
+use Rattle.calls.specs.Buffers.{Buffers, rowAt, titleAt, ruleAt, rowFacts, contentAt, factsAt, isFull, withRow, withTitle, withRule}
 use Rattle.calls.specs.Effect.{afterMove, setPermits, writeEntry, wipeTitle, wipeEntry, effect}
 use Rattle.calls.specs.Perform.{perform, Bytes, AreBytes, InBounds, Demand1}
 use Rattle.calls.proofs.Refusals.{unchanged, carried-out, refused-first}
 use Rattle.calls.proofs.Passed.{Passed, passed, on-card, its-row, away-row, a-copy, a-holder, deletes}
-use Rattle.calls.proofs.Views.{IsRow, in-a-state, row-inside, row-length, entry-inside, entry-length}
+use Rattle.calls.proofs.Views.{IsRow, row-inside, row-length, entry-inside, entry-length}
 use Rattle.calls.proofs.History.Totals.{Within}
 
 -- nothing changed

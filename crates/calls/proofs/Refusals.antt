@@ -5,13 +5,12 @@ use mathlib.Core.Path.{_≡_, refl, sym, ap, _∙_}
 use mathlib.Core.Logic.{_≢_, inl, inr}
 use mathlib.Core.List.{List, [], _∷_, _++_}
 use mathlib.Core.Bool.{Bool, true, false, not, _&&_, _||_, cond, true≢false}
-use native.Mathlib.Omega.{arith}
-use lib.Dec.{eqb, ltb}
-use borrow.Author.Tests.{eq-eqb, ne-eqb, eqb-false, not-true, ltb-true}
+use lib.Dec.{eqb}
+use borrow.Author.Tests.{eq-eqb, ne-eqb, eqb-false, not-true}
 use Rattle.formats.specs.declared.request.Request.{Request}
 use Rattle.formats.specs.declared.request.Request.the-variants.{Register, Record, CheckOut, CheckIn, MoveOut, MoveIn, Delete}
 use Rattle.formats.specs.Refusal.{unless as answer}
-use Rattle.formats.proofs.Tests.{split, both, one-holds, refuted}
+use Rattle.formats.proofs.Tests.{split, one-holds, refuted}
 use Rattle.calls.specs.Buffers.{Buffers}
 use Rattle.calls.specs.Refusal.{Condition, _when_, _unless_, first, numbersOf, FirstToHold, NoneHolds}
 use Rattle.calls.specs.Conditions.{conditions}
@@ -159,6 +158,11 @@ Unmet n ((m when b) ∷ rest) = Also (eqb m n) (b ≡ false) (Unmet n rest)
 pub unmet : (n : ℕ) (cs : List Condition) → NoneHolds cs → Unmet n cs
 unmet n [] h = tt
 unmet n ((m when b) ∷ cs) h = also (eqb m n) (b ≡ false) (Unmet n cs) (h .0) (unmet n cs (h .1))
+
+-- a test that is the only condition of its number
+pub alone : (x : Bool) → (x || false) ≡ true → x ≡ true
+alone true e = refl
+alone false e = e
 
 -- THE CALLS
 

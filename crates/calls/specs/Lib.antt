@@ -7,3 +7,4 @@ pub mod Perform
 pub mod History
 pub mod Examples
 pub mod Guards
+pub mod Carried

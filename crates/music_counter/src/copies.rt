@@ -1,6 +1,6 @@
 // The copies on a card.
 ghost use mathlib.Core.Path.{_≡_};
-ghost use Prim.Native.Nat.{_<_};
+ghost use Prim.Native.Nat.{_≤_};
 ghost use lib.ListN.{length};
 ghost use Rattle.calls.specs.Buffers.{titleAt, ruleAt, isCopy, copyOf, copies};
 use formats::entry;
@@ -11,7 +11,7 @@ use formats::half;
 
 // The title half of an entry, as the part of the title table that it occupies.
 pub fn title_half(titles: &[u8], entry: EntryNumber) -> &[u8]
-    requires { ⌜ (entry .0 < 1000) × (length (now titles) ≡ 16000) ⌝ }
+    requires { ⌜ (1 ≤ entry .0) × (entry .0 ≤ 999) × (length (now titles) ≡ 16000) ⌝ }
     ensures { λ r. ⌜ (now r ≡ titleAt (now (titles .entry)) (entry .0)) × (length (now r) ≡ 16) ⌝ }
 {
     let a = 16 * (entry.0 as usize);
@@ -20,7 +20,7 @@ pub fn title_half(titles: &[u8], entry: EntryNumber) -> &[u8]
 
 // The rule half of an entry, as the part of the rule table that it occupies.
 pub fn rule_half(rules: &[u8], entry: EntryNumber) -> &[u8]
-    requires { ⌜ (entry .0 < 1000) × (length (now rules) ≡ 32000) ⌝ }
+    requires { ⌜ (1 ≤ entry .0) × (entry .0 ≤ 999) × (length (now rules) ≡ 32000) ⌝ }
     ensures { λ r. ⌜ (now r ≡ ruleAt (now (rules .entry)) (entry .0)) × (length (now r) ≡ 32) ⌝ }
 {
     let a = 32 * (entry.0 as usize);
