@@ -2,7 +2,7 @@
 .PHONY: demo test expected
 
 demo:
-	@echo "There is no program yet: this delivery is the byte formats, the calls as definitions, formatting and the tally. 'make test' proves and tests it."
+	@echo "There is no program yet: only the byte formats, the calls as definitions, formatting and the tally. 'make test' proves and tests it."
 
 test: expected
 	rt fmt --check
