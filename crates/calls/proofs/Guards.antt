@@ -4,7 +4,7 @@ use Prim.Native.Nat.{ℕ, _*_}
 use mathlib.Core.Path.{_≡_, refl, sym, ap, _∙_}
 use mathlib.Core.Logic.{_≢_}
 use mathlib.Core.List.{List}
-use mathlib.Core.Bool.{Bool, true, false, not, _&&_, _||_, true≢false, cond}
+use mathlib.Core.Bool.{Bool, true, false, not, _&&_, true≢false, cond}
 use native.Mathlib.Omega.{arith}
 use lib.Dec.{eqb}
 use borrow.Author.Tests.{ne-eqb, eqb-true, eqb-false, not-false}
@@ -15,6 +15,7 @@ use Rattle.formats.specs.Facts.{cciPasses, triggerPasses, countPasses, keyPasse
 use Rattle.formats.specs.Refusal.{unless}
 use Rattle.formats.specs.Head.{ledgerPasses, ledgerApplication, titlesPass, rulesPass, rulesApplication}
 use Rattle.formats.specs.Request.{kindOf, factArguments, factValues, schema, firstLimit, limitOf}
+use Rattle.formats.specs.Row.{hereRow, plainRow}
 use Rattle.formats.specs.declared.facts.Facts.{Facts}
 use Rattle.formats.specs.declared.facts.ContentId.{ContentId}
 use Rattle.formats.specs.declared.facts.EntryNumber.{EntryNumber}
@@ -29,18 +30,12 @@ use Rattle.calls.specs.Buffers.{Buffers, titleAt, ruleAt, kindAt, isFull
 use Rattle.calls.specs.Refusal.{first}
 use Rattle.calls.specs.Conditions.{numbered, factsPass, argumentConditions, mayNotMove, leavesKey, conditions}
 use Rattle.calls.specs.Effect.{effect, wipeEntry, wipeTitle}
-use Rattle.formats.specs.Row.{hereRow, plainRow}
 use Rattle.calls.specs.Perform.{refusal, perform}
 use Rattle.calls.specs.Guards.{withCard, titleKey, stiKey, Guards}
 use Rattle.calls.proofs.Refusals.{alone, refused-by, carried-out}
-use Rattle.calls.proofs.Passed.{Passed, passed, OnCard, on-card}
+use Rattle.calls.proofs.Passed.{neither, Passed, passed, OnCard, on-card}
 use Rattle.calls.proofs.Views.{entry-same}
 use Rattle.calls.proofs.Done.{rule-long, wiped-title-long, wiped-rule-long}
-
--- neither of two tests holds
-neither : (a b : Bool) → (a || b) ≡ false → (a ≡ false) × (b ≡ false)
-neither true b e = absurd (true≢false e)
-neither false b e = (refl, e)
 
 -- 4 to 6 as the reader and the writer of requests test them: one test
 one-limit : (x : Bool) (n : ℕ) {rest limits : ℕ} → n ≢ 0 → rest ≡ limits → cond (not x) n rest ≡ cond (eqb (unless x n) 0) limits (unless x n)

@@ -115,13 +115,14 @@ InState NoState = false
 a-state : {s : RowState} (t : RowState) → InState t ≡ true → s ≡ t → s ≢ NoState
 a-state t some e none = true≢false (sym some ∙ ap InState (sym e ∙ none))
 
+-- neither of two tests holds
+pub neither : (a b : Bool) → (a || b) ≡ false → (a ≡ false) × (b ≡ false)
+neither true b e = absurd (true≢false e)
+neither false b e = (refl, e)
+
 -- 12: neither trigger nor rights forbid a move
 pub may-move : (f : Facts) → mayNotMove f ≡ false → f .rights ≢ 0
-may-move f e = eqb-false _ _ (second (eqb (f .trigger) 1) (eqb (f .rights) 0) e)
-  where
-    second : (a b : Bool) → (a || b) ≡ false → b ≡ false
-    second true b e = absurd (true≢false e)
-    second false b e = e
+may-move f e = eqb-false _ _ (neither (eqb (f .trigger) 1) (eqb (f .rights) 0) e .1)
 
 -- none of a call's conditions holds: the condition n is named by its number
 abbrev pub Passed : Request → Buffers → Type 0

@@ -7,7 +7,7 @@ use mathlib.Core.List.{List}
 use mathlib.Core.Bool.{Bool, true, false, cond, _&&_}
 use native.Mathlib.Omega.{arith}
 use lib.ListN.{length}
-use lib.Dec.{leb}
+use lib.Dec.{leb, eqb}
 use borrow.Author.Tests.{le-leb, leb-true}
 use Rattle.formats.specs.Part.{part, put}
 use Rattle.formats.specs.Half.{idOf, usableOf, wiped}
@@ -28,11 +28,12 @@ use Rattle.formats.proofs.half.Laws.{written-id}
 use Rattle.formats.proofs.title.Laws.{title-written}
 use Rattle.formats.proofs.entry.Laws.{kind-copy, kind-full, entry-facts-back, copy-wiped, both-wiped}
 use Rattle.formats.proofs.head.Laws.{LedgerHead, rows-kept}
-use Rattle.calls.specs.Buffers.{Buffers, rowAt, titleAt, ruleAt, stateIn, stateAt}
+use Rattle.calls.specs.History.{fullOf}
+use Rattle.calls.specs.Buffers.{kindAt, contentAt, factsAt, isCopy, isFull, one, total, copies, Buffers, rowAt, titleAt, ruleAt, stateIn, stateAt}
 use Rattle.calls.proofs.Slots.{slot-ends, slot-same, slot-else}
-use Rattle.calls.proofs.History.Totals.{Within}
-use Rattle.calls.proofs.History.Titles.{Place, vacant, copy, full}
-use Rattle.calls.proofs.History.Step.{State}
+use Rattle.calls.proofs.History.Totals.{Within, total-same}
+use Rattle.calls.proofs.History.Titles.{Place, vacant, copy, full, copyIn, fullIn}
+use Rattle.calls.proofs.History.Step.{State, copiesIn, fullsIn}
 
 -- ROWS
 
@@ -119,6 +120,31 @@ full-entry Torn id f c h e = (cc, cc, cc)
 -- what the rows and entries are
 abbrev pub view : Buffers → State
 view b = record { rows = stateAt b; places = λ j. placeOf (titleAt (b .titles) j) (ruleAt (b .rules) j) }
+
+-- COUNTS
+
+-- the copies that the bytes show are those at the places
+copy-counts : (c : ℕ) (k : EntryKind) (id : ℕ) (f : Facts) → copyIn c (placeBy k id f) ≡ one (isCopy k && eqb id c)
+copy-counts c Free id f = refl
+copy-counts c Copy id f = refl
+copy-counts c Full id f = refl
+copy-counts c Torn id f = refl
+
+pub copies-seen : (c : ℕ) (b : Buffers) → copies c (b .titles) (b .rules) ≡ copiesIn 999 c (view b)
+unfolding copies
+copies-seen c b = total-same 999 _ _ (λ j l. sym (copy-counts c (kindAt b j) (contentAt b j) (factsAt b j)))
+
+-- the holders that the bytes show are those at the places
+full-counts : (c : ℕ) (k : EntryKind) (id : ℕ) (f : Facts) → fullIn c (placeBy k id f) ≡ one (isFull k && eqb id c)
+full-counts c Free id f = refl
+full-counts c Copy id f = refl
+full-counts c Full id f = refl
+full-counts c Torn id f = refl
+
+pub fulls-seen : (c : ℕ) (b : Buffers) → total 999 (λ j. one (fullOf c b j)) ≡ fullsIn 999 c (view b)
+fulls-seen c b = total-same 999 _ _ (λ j l. sym (full-counts c (kindAt b j) (contentAt b j) (factsAt b j)))
+
+-- ENTRIES WRITTEN
 
 -- an entry of a card table: its head and 999 entries are 1,000 slots
 module _ (width : ℕ) (table : List ℕ) (long : length table ≡ width * 1000) where

@@ -5,11 +5,11 @@ use mathlib.Core.Path.{_≡_, refl}
 use mathlib.Core.List.{List}
 use borrow.Author.Tests.{eq-eqb}
 use Rattle.formats.specs.Head.{freshLedger, freshTitles, freshRules}
+use Rattle.music_counter.specs.Format.{ledgerConditions, ledgerFormatting, formattedLedger, cardFormatting, formattedTitles, formattedRules}
+use Rattle.music_counter.specs.History.{FormattedHistory}
 use Rattle.calls.proofs.Refusals.{to-none}
 use Rattle.calls.proofs.Passed.{is-numbered}
 use Rattle.calls.proofs.History.Always.{history}
-use Rattle.music_counter.specs.Format.{ledgerConditions, ledgerFormatting, formattedLedger, cardFormatting, formattedTitles, formattedRules}
-use Rattle.music_counter.specs.History.{FormattedHistory}
 
 -- where formatting answers 0 it leaves fresh tables
 pub ledger-fresh : (ledger : List ℕ) (rows application : ℕ) → ledgerFormatting ledger rows ≡ 0 → formattedLedger ledger rows application ≡ freshLedger rows application

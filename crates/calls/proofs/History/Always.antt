@@ -8,7 +8,7 @@ use mathlib.Core.Option.{some}
 use mathlib.Core.Bool.{Bool, true, false, cond, _&&_}
 use native.Mathlib.Omega.{arith}
 use native.Mathlib.Decide.{ℕ-discrete}
-use lib.Dec.{leb, eqb}
+use lib.Dec.{leb}
 use lib.ListN.{replicate}
 use borrow.Author.Tests.{leb-true, ne-eqb}
 use Rattle.formats.specs.Half.{idOf}
@@ -18,25 +18,24 @@ use Rattle.formats.specs.Row.{stateOf}
 use Rattle.formats.specs.declared.facts.Facts.{Facts}
 use Rattle.formats.specs.declared.request.Request.{Request}
 use Rattle.formats.specs.declared.entry.EntryKind.{EntryKind}
-use Rattle.formats.specs.declared.entry.EntryKind.the-variants.{Free, Copy, Full, Torn}
 use Rattle.formats.specs.declared.row.RowState.{RowState}
 use Rattle.formats.specs.declared.row.RowState.the-variants.{Empty, Here, Away, Gone, NoState}
 use Rattle.formats.proofs.Tests.{split}
 use Rattle.formats.proofs.entry.Laws.{kind-zeros}
 use Rattle.formats.proofs.row.Laws.{state-zeros}
 use Rattle.formats.proofs.head.Laws.{fresh-rows, fresh-row, fresh-title, fresh-rule, fresh-ledger-bytes, fresh-titles-bytes, fresh-rules-bytes}
-use Rattle.calls.specs.Buffers.{Buffers, rowAt, ruleAt, stateIn, stateAt, kindAt, contentAt, factsAt, isHere, isFull, one, total, fresh}
+use Rattle.calls.specs.Buffers.{Buffers, rowAt, ruleAt, stateIn, stateAt, kindAt, contentAt, factsAt, isHere, one, fresh}
 use Rattle.calls.specs.Effect.{effect}
 use Rattle.calls.specs.Perform.{perform, AreBytes}
-use Rattle.calls.specs.History.{Answered, Log, lastAt, Action, actions, times, grant, Run, next, start, run, fullOf, holders, Holder, in-row, in-entry, TitleClaim, History}
+use Rattle.calls.specs.History.{Answered, Log, lastAt, Action, actions, times, grant, Run, next, start, run, holders, Holder, in-row, in-entry, TitleClaim, History}
 use Rattle.calls.proofs.Refusals.{unchanged, carried-out}
 use Rattle.calls.proofs.Passed.{passed}
 use Rattle.calls.proofs.InBounds.{in-bounds}
-use Rattle.calls.proofs.Views.{placeBy, placeOf, view, full-entry}
-use Rattle.calls.proofs.History.Totals.{Within, total-same, total-none}
+use Rattle.calls.proofs.Views.{placeBy, placeOf, view, full-entry, copies-seen, fulls-seen}
+use Rattle.calls.proofs.History.Totals.{Within, total-none}
 use Rattle.calls.proofs.History.Titles.{vacant, copyIn, fullIn, TitleInvariant, Accounts, NotGranted}
 use Rattle.calls.proofs.History.Step.{At, Invariant, kept, copiesIn, fullsIn, holder-found}
-use Rattle.calls.proofs.History.Calls.{copies-seen, change}
+use Rattle.calls.proofs.History.Calls.{change}
 
 -- THE START
 
@@ -128,16 +127,6 @@ always [] w s = s
 always (k ∷ ks) w s = always ks (next k w) (goes-on k w s)
 
 -- WHAT IT SAYS OF A TITLE
-
--- the holders that the bytes show are those at the places
-full-counts : (c : ℕ) (k : EntryKind) (id : ℕ) (f : Facts) → fullIn c (placeBy k id f) ≡ one (isFull k && eqb id c)
-full-counts c Free id f = refl
-full-counts c Copy id f = refl
-full-counts c Full id f = refl
-full-counts c Torn id f = refl
-
-fulls-seen : (c : ℕ) (b : Buffers) → total 999 (λ j. one (fullOf c b j)) ≡ fullsIn 999 c (view b)
-fulls-seen c b = total-same 999 _ _ (λ j l. sym (full-counts c (kindAt b j) (contentAt b j) (factsAt b j)))
 
 module _ (c : ℕ) (f : Facts) (ds : List Action) (b : Buffers) where
   from-accounts : (h : Facts) → Accounts ds h (copiesIn 999 c (view b)) → holders c b ≡ 1 → Holder c b h → grant ds ≡ some f → TitleClaim c f ds b

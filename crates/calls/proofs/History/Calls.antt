@@ -3,36 +3,22 @@
 use Prim.Native.Nat.{ℕ}
 use mathlib.Core.Path.{_≡_, refl, sym, ap, subst, _∙_}
 use mathlib.Core.Logic.{_≢_, inl, inr}
-use mathlib.Core.Bool.{_&&_}
-use lib.Dec.{eqb}
 use borrow.Author.Tests.{ne-eqb, eqb-true, eqb-false, not-false}
-use Rattle.formats.specs.declared.facts.Facts.{Facts}
 use Rattle.formats.specs.declared.request.Request.{Request}
 use Rattle.formats.specs.declared.request.Request.the-variants.{Register, Record, CheckOut, CheckIn, MoveOut, MoveIn, Delete}
 use Rattle.formats.specs.declared.entry.EntryKind.{EntryKind}
-use Rattle.formats.specs.declared.entry.EntryKind.the-variants.{Free, Copy, Full, Torn}
+use Rattle.formats.specs.declared.entry.EntryKind.the-variants.{Copy, Full}
 use Rattle.formats.specs.declared.row.RowState.{RowState}
-use Rattle.calls.specs.Buffers.{Buffers, stateAt, rowFacts, kindAt, contentAt, factsAt, isCopy, one, copies}
+use Rattle.calls.specs.Buffers.{Buffers, stateAt, rowFacts, kindAt, contentAt, factsAt, copies}
 use Rattle.calls.specs.Effect.{effect}
 use Rattle.calls.specs.Perform.{AreBytes}
 use Rattle.calls.specs.History.{Log, aCopy, theHolder, puts, lastAt, Action, granted, checkedOut, checkedIn, moved, copyDeleted, holderDeleted, event}
 use Rattle.calls.proofs.Passed.{is-numbered, is-free, is-copy, is-full, is-empty, is-here, is-away, may-move, Passed, on-card, a-copy, a-holder, deletes}
-use Rattle.calls.proofs.Views.{placeBy, view}
+use Rattle.calls.proofs.Views.{placeBy, view, copies-seen}
 use Rattle.calls.proofs.Done.{Leaves, register-leaves, record-leaves, check-out-leaves, check-in-leaves, move-out-leaves, move-in-leaves, delete-copy-leaves, delete-holder-leaves}
-use Rattle.calls.proofs.History.Totals.{Within, total-same}
-use Rattle.calls.proofs.History.Titles.{Place, copyIn, eqb-self, TitleStep, step-register, step-record, step-check-out, step-check-in, step-move-out, step-move-in, step-delete-copy, step-delete-holder, step-at}
+use Rattle.calls.proofs.History.Totals.{Within}
+use Rattle.calls.proofs.History.Titles.{Place, eqb-self, TitleStep, step-register, step-record, step-check-out, step-check-in, step-move-out, step-move-in, step-delete-copy, step-delete-holder, step-at}
 use Rattle.calls.proofs.History.Step.{Agree, At, Invariant, Change, copiesIn}
-
--- the copies that the bytes show are those at the places
-copy-counts : (c : ℕ) (k : EntryKind) (id : ℕ) (f : Facts) → copyIn c (placeBy k id f) ≡ one (isCopy k && eqb id c)
-copy-counts c Free id f = refl
-copy-counts c Copy id f = refl
-copy-counts c Full id f = refl
-copy-counts c Torn id f = refl
-
-pub copies-seen : (c : ℕ) (b : Buffers) → copies c (b .titles) (b .rules) ≡ copiesIn 999 c (view b)
-unfolding copies
-copies-seen c b = total-same 999 _ _ (λ j l. sym (copy-counts c (kindAt b j) (contentAt b j) (factsAt b j)))
 
 module _ (log : Log) (b : Buffers) (inv : Invariant 999 log (view b)) (are-bytes : AreBytes b) where
   -- from what a call leaves to a change
