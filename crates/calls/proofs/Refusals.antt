@@ -74,23 +74,7 @@ module _ {n answer : ℕ} (made old : List ℕ) (e : n ≡ answer) where
   pub changed : n ≡ 0 → made ≡ cond (eqb answer 0) made old
   changed z = sym (ap (λ (x : Bool). cond x made old) (eq-eqb answer 0 (sym e ∙ z)))
 
--- IN STAGES
-
--- a stage that refuses gives the answer
-pub first-stage : (cs ds : List Condition) → first cs ≢ 0 → first cs ≡ first (cs ++ ds)
-unfolding first
-first-stage [] ds h = absurd (h refl)
-first-stage ((n when true) ∷ cs) ds h = refl
-first-stage ((n when false) ∷ cs) ds h = first-stage cs ds h
-
--- one that does not leaves it to the next
-pub next-stage : (cs ds : List Condition) → refusing cs ≡ true → first cs ≡ 0 → first ds ≡ first (cs ++ ds)
-unfolding first
-next-stage [] ds r e = refl
-next-stage ((n when true) ∷ cs) ds r e = absurd (other-than-0 n cs r .0 e)
-next-stage ((n when false) ∷ cs) ds r e = next-stage cs ds (other-than-0 n cs r .1) e
-
--- so does one of which none holds
+-- conditions of which none holds leave the answer to those after them
 pub past : (cs ds : List Condition) → NoneHolds cs → first (cs ++ ds) ≡ first ds
 unfolding first
 past [] ds h = refl

@@ -127,7 +127,7 @@ number holderDeleted = 5
 -- how often a sort of action stands in a list
 unfoldable pub times : Action → List Action → ℕ
 times d [] = 0
-times d (e ∷ ds) = one (eqb (number d) (number e)) + times d ds
+times d (e ∷ acts) = one (eqb (number d) (number e)) + times d acts
 
 -- "g, m and the granted keys are in that call's facts"
 abbrev pub grantedBy : Action → Option Facts → Option Facts
@@ -140,7 +140,7 @@ grantedBy holderDeleted before = before
 
 unfoldable pub grant : List Action → Option Facts
 grant [] = none
-grant (d ∷ ds) = grantedBy d (grant ds)
+grant (d ∷ acts) = grantedBy d (grant acts)
 
 -- HOLDERS, from the bytes (copies: `copies`)
 
@@ -165,8 +165,8 @@ pub record Account (granted left used : ℕ) : Type 0 where
   pub counted : granted ≤ 14 → left + used ≡ granted
   pub unlimited : granted ≡ 15 → left ≡ 15
 
--- title c, granted with the facts f, whose actions are ds: "unless its holder was deleted, all four hold"
-pub record HolderStands (c : ℕ) (f : Facts) (ds : List Action) (b : Buffers) : Type 0 where
+-- title c, granted with the facts f, whose actions are acts: "unless its holder was deleted, all four hold"
+pub record HolderStands (c : ℕ) (f : Facts) (acts : List Action) (b : Buffers) : Type 0 where
   -- "It has exactly one holder, with the granted keys."
   pub one-holder : holders c b ≡ 1
   pub facts : Facts
@@ -174,20 +174,20 @@ pub record HolderStands (c : ℕ) (f : Facts) (ds : List Action) (b : Buffers) :
   pub title-key : facts .«title_key» ≡ f .«title_key»
   pub sti-key : facts .«sti_key» ≡ f .«sti_key»
   -- "Its check-outs equal its copies plus its check-ins plus its copies deleted."
-  pub check-outs : times checkedOut ds ≡ copies c (b .titles) (b .rules) + times checkedIn ds + times copyDeleted ds
-  pub permits : Account (f .permits) (facts .permits) (copies c (b .titles) (b .rules) + times copyDeleted ds)
-  pub rights : Account (f .rights) (facts .rights) (times moved ds)
+  pub check-outs : times checkedOut acts ≡ copies c (b .titles) (b .rules) + times checkedIn acts + times copyDeleted acts
+  pub permits : Account (f .permits) (facts .permits) (copies c (b .titles) (b .rules) + times copyDeleted acts)
+  pub rights : Account (f .rights) (facts .rights) (times moved acts)
 
 -- "If its holder was deleted, it has neither holder nor copy."
 pub record NoHolder (c : ℕ) (b : Buffers) : Type 0 where
   pub no-holder : holders c b ≡ 0
   pub no-copy : copies c (b .titles) (b .rules) ≡ 0
 
-pub record TitleClaim (c : ℕ) (f : Facts) (ds : List Action) (b : Buffers) : Type 0 where
+pub record TitleClaim (c : ℕ) (f : Facts) (acts : List Action) (b : Buffers) : Type 0 where
   -- exactly one done register or record has c
-  pub granted-once : times (granted f) ds ≡ 1
-  pub unless-deleted : times holderDeleted ds ≡ 0 → HolderStands c f ds b
-  pub if-deleted : times holderDeleted ds ≢ 0 → NoHolder c b
+  pub granted-once : times (granted f) acts ≡ 1
+  pub unless-deleted : times holderDeleted acts ≡ 0 → HolderStands c f acts b
+  pub if-deleted : times holderDeleted acts ≢ 0 → NoHolder c b
 
 -- of every title granted in a run
 abbrev pub After : Run → Type 0

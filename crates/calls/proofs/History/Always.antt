@@ -128,8 +128,8 @@ always (k ∷ ks) w s = always ks (next k w) (goes-on k w s)
 
 -- WHAT IT SAYS OF A TITLE
 
-module _ (c : ℕ) (f : Facts) (ds : List Action) (b : Buffers) where
-  from-accounts : (h : Facts) → Accounts ds h (copiesIn 999 c (view b)) → holders c b ≡ 1 → Holder c b h → grant ds ≡ some f → TitleClaim c f ds b
+module _ (c : ℕ) (f : Facts) (acts : List Action) (b : Buffers) where
+  from-accounts : (h : Facts) → Accounts acts h (copiesIn 999 c (view b)) → holders c b ≡ 1 → Holder c b h → grant acts ≡ some f → TitleClaim c f acts b
   from-accounts h accounts one-holder at e =
       let i : accounts .given ≡ f = cc in
       let n = copies-seen c b in
@@ -153,7 +153,7 @@ module _ (c : ℕ) (f : Facts) (ds : List Action) (b : Buffers) where
   unfolding holders
   holder-count r m row fulls = rw (row, fulls-seen c b, fulls)
 
-  title-claim : (r : RowState) → stateAt b c ≡ r → TitleInvariant ds (copiesIn 999 c (view b)) (fullsIn 999 c (view b)) (At 999 c (view b)) r → grant ds ≡ some f → TitleClaim c f ds b
+  title-claim : (r : RowState) → stateAt b c ≡ r → TitleInvariant acts (copiesIn 999 c (view b)) (fullsIn 999 c (view b)) (At 999 c (view b)) r → grant acts ≡ some f → TitleClaim c f acts b
   title-claim Empty row st e = let z : _≡_ {A = ℕ} 0 1 = cc in absurd (omega arith)
   title-claim (Here h) row st e = from-accounts h (st .accounts) (holder-count (Here h) 0 row (st .no-full)) (in-row row) e
   title-claim Away row st e =

@@ -58,51 +58,51 @@ refund {l} a e =
       unlimited = λ b. let x = a .unlimited b in let y = more-unlimited l (omega arith) in omega arith;
     }
 
--- what the actions ds, with n copies out, say of the holder's facts h
-pub record Accounts (ds : List Action) (h : Facts) (n : ℕ) : Type 0 where
+-- what the actions acts, with n copies out, say of the holder's facts h
+pub record Accounts (acts : List Action) (h : Facts) (n : ℕ) : Type 0 where
   pub given : Facts
-  pub is-grant : grant ds ≡ some given
-  pub once : (f : Facts) → times (granted f) ds ≡ 1
+  pub is-grant : grant acts ≡ some given
+  pub once : (f : Facts) → times (granted f) acts ≡ 1
   pub title-key : h .«title_key» ≡ given .«title_key»
   pub sti-key : h .«sti_key» ≡ given .«sti_key»
-  pub out : times checkedOut ds ≡ n + times checkedIn ds + times copyDeleted ds
-  pub permits : Account (given .permits) (h .permits) (n + times copyDeleted ds)
-  pub rights : Account (given .rights) (h .rights) (times moved ds)
-  pub not-deleted : times holderDeleted ds ≡ 0
+  pub out : times checkedOut acts ≡ n + times checkedIn acts + times copyDeleted acts
+  pub permits : Account (given .permits) (h .permits) (n + times copyDeleted acts)
+  pub rights : Account (given .rights) (h .rights) (times moved acts)
+  pub not-deleted : times holderDeleted acts ≡ 0
 
 -- the title was never granted
-pub record NotGranted (ds : List Action) (n m : ℕ) : Type 0 where
-  pub no-action : (d : Action) → times d ds ≡ 0
-  pub no-grant : grant ds ≡ none
+pub record NotGranted (acts : List Action) (n m : ℕ) : Type 0 where
+  pub no-action : (d : Action) → times d acts ≡ 0
+  pub no-grant : grant acts ≡ none
   pub no-copy : n ≡ 0
   pub no-full : m ≡ 0
 
 -- its holder is its row
-pub record HeldInRow (ds : List Action) (n m : ℕ) (h : Facts) : Type 0 where
+pub record HeldInRow (acts : List Action) (n m : ℕ) (h : Facts) : Type 0 where
   pub no-full : m ≡ 0
-  pub accounts : Accounts ds h n
+  pub accounts : Accounts acts h n
 
 -- its holder is at a place
-pub record HeldAtPlace (ds : List Action) (n m : ℕ) (G : Facts → Type 0) : Type 0 where
+pub record HeldAtPlace (acts : List Action) (n m : ℕ) (G : Facts → Type 0) : Type 0 where
   pub no-copy : n ≡ 0
   pub one-full : m ≡ 1
-  pub accounts : (h : Facts) → G h → Accounts ds h 0
+  pub accounts : (h : Facts) → G h → Accounts acts h 0
 
 -- its holder was deleted
-pub record HolderGone (ds : List Action) (n m : ℕ) : Type 0 where
-  pub deleted : times holderDeleted ds ≢ 0
-  pub once : (f : Facts) → times (granted f) ds ≡ 1
+pub record HolderGone (acts : List Action) (n m : ℕ) : Type 0 where
+  pub deleted : times holderDeleted acts ≢ 0
+  pub once : (f : Facts) → times (granted f) acts ≡ 1
   pub no-copy : n ≡ 0
   pub no-full : m ≡ 0
 
--- the invariant of a title, by its row: ds its actions, n its copies, m the places that have it in full, and G h says that some
+-- the invariant of a title, by its row: acts its actions, n its copies, m the places that have it in full, and G h says that some
 -- place has it in full with the facts h
 abbrev pub TitleInvariant : List Action → ℕ → ℕ → (Facts → Type 0) → RowState → Type 0
-TitleInvariant ds n m G Empty = NotGranted ds n m
-TitleInvariant ds n m G (Here h) = HeldInRow ds n m h
-TitleInvariant ds n m G Away = HeldAtPlace ds n m G
-TitleInvariant ds n m G Gone = HolderGone ds n m
-TitleInvariant ds n m G NoState = NotGranted ds n m
+TitleInvariant acts n m G Empty = NotGranted acts n m
+TitleInvariant acts n m G (Here h) = HeldInRow acts n m h
+TitleInvariant acts n m G Away = HeldAtPlace acts n m G
+TitleInvariant acts n m G Gone = HolderGone acts n m
+TitleInvariant acts n m G NoState = NotGranted acts n m
 
 -- a done call, as the title d that it belongs to sees it: the action, the row and the place before it, and both after it
 pub data TitleStep (d n : ℕ) (G : Facts → Type 0) : Action → RowState → Place → RowState → Place → Type 0 where
@@ -116,8 +116,8 @@ pub data TitleStep (d n : ℕ) (G : Facts → Type 0) : Action → RowState → 
   step-delete-holder : {h : Facts} → TitleStep d n G holderDeleted Away (full d h) Gone vacant
 
 -- the accounts after each action
-module _ (ds : List Action) (h : Facts) (n n′ : ℕ) where
-  accounts-granted : ((d : Action) → times d ds ≡ 0) → n ≡ 0 → Accounts (granted h ∷ ds) h n
+module _ (acts : List Action) (h : Facts) (n n′ : ℕ) where
+  accounts-granted : ((d : Action) → times d acts ≡ 0) → n ≡ 0 → Accounts (granted h ∷ acts) h n
   unfolding times grant
   accounts-granted z e =
       let a = z checkedOut in
@@ -138,11 +138,11 @@ module _ (ds : List Action) (h : Facts) (n n′ : ℕ) where
       }
 
   -- after an action that is no grant, from what each account says then
-  accounts-next : (a : Action) (h′ : Facts) (b : Accounts ds h n) → grant (a ∷ ds) ≡ grant ds → ((f : Facts) → times (granted f) (a ∷ ds) ≡ times (granted f) ds)
+  accounts-next : (a : Action) (h′ : Facts) (b : Accounts acts h n) → grant (a ∷ acts) ≡ grant acts → ((f : Facts) → times (granted f) (a ∷ acts) ≡ times (granted f) acts)
       → h′ .«title_key» ≡ h .«title_key» → h′ .«sti_key» ≡ h .«sti_key»
-      → times checkedOut (a ∷ ds) ≡ n′ + times checkedIn (a ∷ ds) + times copyDeleted (a ∷ ds)
-      → Account (b .given .permits) (h′ .permits) (n′ + times copyDeleted (a ∷ ds)) → Account (b .given .rights) (h′ .rights) (times moved (a ∷ ds))
-      → times holderDeleted (a ∷ ds) ≡ 0 → Accounts (a ∷ ds) h′ n′
+      → times checkedOut (a ∷ acts) ≡ n′ + times checkedIn (a ∷ acts) + times copyDeleted (a ∷ acts)
+      → Account (b .given .permits) (h′ .permits) (n′ + times copyDeleted (a ∷ acts)) → Account (b .given .rights) (h′ .rights) (times moved (a ∷ acts))
+      → times holderDeleted (a ∷ acts) ≡ 0 → Accounts (a ∷ acts) h′ n′
   accounts-next a h′ b same-grant same-times title-key sti-key out permits rights not-deleted =
       record {
         given = b .given;
@@ -156,75 +156,75 @@ module _ (ds : List Action) (h : Facts) (n n′ : ℕ) where
         not-deleted = not-deleted;
       }
 
-  accounts-checked-out : Accounts ds h n → h .permits ≢ 0 → n′ ≡ n + 1 → Accounts (checkedOut ∷ ds) (permitting h (oneLess (h .permits))) n′
+  accounts-checked-out : Accounts acts h n → h .permits ≢ 0 → n′ ≡ n + 1 → Accounts (checkedOut ∷ acts) (permitting h (oneLess (h .permits))) n′
   unfolding times grant
   accounts-checked-out b l e =
       accounts-next checkedOut (permitting h (oneLess (h .permits))) b refl (λ f. omega arith) refl refl (omega (arith, b .out))
       (spend (b .permits) l (omega arith)) (keep (b .rights) (omega arith)) (omega (arith, b .not-deleted))
 
-  accounts-checked-in : Accounts ds h n → n′ + 1 ≡ n → Accounts (checkedIn ∷ ds) (permitting h (oneMore (h .permits))) n′
+  accounts-checked-in : Accounts acts h n → n′ + 1 ≡ n → Accounts (checkedIn ∷ acts) (permitting h (oneMore (h .permits))) n′
   unfolding times grant
   accounts-checked-in b e =
       accounts-next checkedIn (permitting h (oneMore (h .permits))) b refl (λ f. omega arith) refl refl (omega (arith, b .out))
       (refund (b .permits) (omega arith)) (keep (b .rights) (omega arith)) (omega (arith, b .not-deleted))
 
-  accounts-moved : Accounts ds h n → h .rights ≢ 0 → n′ ≡ n → Accounts (moved ∷ ds) (afterMove h) n′
+  accounts-moved : Accounts acts h n → h .rights ≢ 0 → n′ ≡ n → Accounts (moved ∷ acts) (afterMove h) n′
   unfolding times grant
   accounts-moved b l e =
       accounts-next moved (afterMove h) b refl (λ f. omega arith) refl refl (omega (arith, b .out))
       (keep (b .permits) (omega arith)) (spend (b .rights) l (omega arith)) (omega (arith, b .not-deleted))
 
-  accounts-copy-deleted : Accounts ds h n → n′ + 1 ≡ n → Accounts (copyDeleted ∷ ds) h n′
+  accounts-copy-deleted : Accounts acts h n → n′ + 1 ≡ n → Accounts (copyDeleted ∷ acts) h n′
   unfolding times grant
   accounts-copy-deleted b e =
       accounts-next copyDeleted h b refl (λ f. omega arith) refl refl (omega (arith, b .out))
       (keep (b .permits) (omega arith)) (keep (b .rights) (omega arith)) (omega (arith, b .not-deleted))
 
-  accounts-deleted : Accounts ds h n → (f : Facts) → times (granted f) (holderDeleted ∷ ds) ≡ 1
+  accounts-deleted : Accounts acts h n → (f : Facts) → times (granted f) (holderDeleted ∷ acts) ≡ 1
   unfolding times
   accounts-deleted b f = omega (arith, b .once f)
 
 -- the title that a call belongs to goes on as it should
-module _ (d n m n′ m′ : ℕ) (G G′ : Facts → Type 0) (ds : List Action) where
+module _ (d n m n′ m′ : ℕ) (G G′ : Facts → Type 0) (acts : List Action) where
   -- a holder at a place, just put there
-  placed : {ds′ : List Action} (f : Facts) (q′ : Place) → q′ ≡ full d f → m ≡ 0 → ((h : Facts) → G h → m ≢ 0)
-      → ((h : Facts) → G′ h → (q′ ≡ full d h) ⊎ G h) → Accounts ds′ f 0 → (h : Facts) → G′ h → Accounts ds′ h 0
-  placed {ds′} f q′ at z g g′ b h x =
-      elim (g′ h x) [ inl e ↦ let i : f ≡ h = cc in subst (λ (y : Facts). Accounts ds′ y 0) i b | inr y ↦ absurd (g h y z) ]
+  placed : {acts′ : List Action} (f : Facts) (q′ : Place) → q′ ≡ full d f → m ≡ 0 → ((h : Facts) → G h → m ≢ 0)
+      → ((h : Facts) → G′ h → (q′ ≡ full d h) ⊎ G h) → Accounts acts′ f 0 → (h : Facts) → G′ h → Accounts acts′ h 0
+  placed {acts′} f q′ at z g g′ b h x =
+      elim (g′ h x) [ inl e ↦ let i : f ≡ h = cc in subst (λ (y : Facts). Accounts acts′ y 0) i b | inr y ↦ absurd (g h y z) ]
 
   pub own : {a : Action} {r r′ : RowState} {q q′ : Place} → TitleStep d n G a r q r′ q′
       → n′ + copyIn d q ≡ n + copyIn d q′ → m′ + fullIn d q ≡ m + fullIn d q′
       → (m ≢ 0 → (h : Facts) × G h) → ((h : Facts) → G h → m ≢ 0) → ((h : Facts) → G′ h → (q′ ≡ full d h) ⊎ G h)
-      → TitleInvariant ds n m G r → TitleInvariant (a ∷ ds) n′ m′ G′ r′
+      → TitleInvariant acts n m G r → TitleInvariant (a ∷ acts) n′ m′ G′ r′
   unfolding times
-  own (step-register {f = f}) en em x g g′ s = record { no-full = omega arith; accounts = accounts-granted ds f n′ 0 (s .no-action) (omega arith) }
+  own (step-register {f = f}) en em x g g′ s = record { no-full = omega arith; accounts = accounts-granted acts f n′ 0 (s .no-action) (omega arith) }
   own (step-record {f = f}) en em x g g′ s =
       let b = simp (eqb-self d) at em in
       record {
         no-copy = omega arith;
         one-full = omega arith;
-        accounts = placed f (full d f) refl (s .no-full) g g′ (accounts-granted ds f 0 0 (s .no-action) refl);
+        accounts = placed f (full d f) refl (s .no-full) g g′ (accounts-granted acts f 0 0 (s .no-action) refl);
       }
   own (step-check-out {h = h} b) en em x g g′ s =
       let c = simp (eqb-self d) at en in
-      record { no-full = omega arith; accounts = accounts-checked-out ds h n n′ (s .accounts) b (omega arith) }
+      record { no-full = omega arith; accounts = accounts-checked-out acts h n n′ (s .accounts) b (omega arith) }
   own (step-check-in {h = h}) en em x g g′ s =
       let c = simp (eqb-self d) at en in
-      record { no-full = omega arith; accounts = accounts-checked-in ds h n n′ (s .accounts) (omega arith) }
+      record { no-full = omega arith; accounts = accounts-checked-in acts h n n′ (s .accounts) (omega arith) }
   own (step-move-out {h = h} y b) en em x g g′ s =
       let c = simp (eqb-self d) at em in
-      record { no-full = omega arith; accounts = accounts-moved ds h 0 n′ (s .accounts h y) b (omega arith) }
+      record { no-full = omega arith; accounts = accounts-moved acts h 0 n′ (s .accounts h y) b (omega arith) }
   own (step-move-in {h = h} z b) en em x g g′ s =
       let c = simp (eqb-self d) at em in
       record {
         no-copy = omega arith;
         one-full = omega arith;
-        accounts = placed (afterMove h) _ refl (s .no-full) g g′ (accounts-moved ds h n 0 (s .accounts) b (omega arith));
+        accounts = placed (afterMove h) _ refl (s .no-full) g g′ (accounts-moved acts h n 0 (s .accounts) b (omega arith));
       }
   own (step-delete-copy {r = Empty}) en em x g g′ s = let c = simp (eqb-self d) at en in absurd (omega arith)
   own (step-delete-copy {r = Here h}) en em x g g′ s =
       let c = simp (eqb-self d) at en in
-      record { no-full = omega arith; accounts = accounts-copy-deleted ds h n n′ (s .accounts) (omega arith) }
+      record { no-full = omega arith; accounts = accounts-copy-deleted acts h n n′ (s .accounts) (omega arith) }
   own (step-delete-copy {r = Away}) en em x g g′ s = let c = simp (eqb-self d) at en in absurd (omega arith)
   own (step-delete-copy {r = Gone}) en em x g g′ s = let c = simp (eqb-self d) at en in absurd (omega arith)
   own (step-delete-copy {r = NoState}) en em x g g′ s = let c = simp (eqb-self d) at en in absurd (omega arith)
@@ -233,14 +233,14 @@ module _ (d n m n′ m′ : ℕ) (G G′ : Facts → Type 0) (ds : List Action) 
       let y = x (omega (arith, s .one-full)) in
       record {
         deleted = omega arith;
-        once = accounts-deleted ds (y .0) 0 0 (s .accounts (y .0) (y .1));
+        once = accounts-deleted acts (y .0) 0 0 (s .accounts (y .0) (y .1));
         no-copy = omega arith;
         no-full = omega arith;
       }
 
 -- a title that a call does not belong to stays as it is
-module _ (ds : List Action) (n m n′ m′ : ℕ) (G G′ : Facts → Type 0) where
-  pub other : (r : RowState) → n′ ≡ n → m′ ≡ m → ((h : Facts) → G′ h → G h) → TitleInvariant ds n m G r → TitleInvariant ds n′ m′ G′ r
+module _ (acts : List Action) (n m n′ m′ : ℕ) (G G′ : Facts → Type 0) where
+  pub other : (r : RowState) → n′ ≡ n → m′ ≡ m → ((h : Facts) → G′ h → G h) → TitleInvariant acts n m G r → TitleInvariant acts n′ m′ G′ r
   other Empty a b g s = record { no-action = s .no-action; no-grant = s .no-grant; no-copy = omega arith; no-full = omega arith }
   other (Here h) a b g s = record { no-full = omega arith; accounts = rw a (s .accounts) }
   other Away a b g s = record { no-copy = omega arith; one-full = omega arith; accounts = λ h x. s .accounts h (g h x) }
