@@ -7,7 +7,7 @@ use native.Mathlib.Decide.{decLt}
 use native.Mathlib.Numerals.{add-one}
 use native.Mathlib.Omega.{arith}
 use lib.ListN.{length, take, drop, set, getD, length-take, length-drop, length-append, List·getD-append, drop-of-length-le}
-use lib.Seq.{drop-drop, getD-take, getD-drop, getD-append-add, length-take-le, ext-getD, set-split}
+use lib.Seq.{take-all, drop-drop, getD-take, getD-drop, getD-append-add, length-take-le, ext-getD, set-split}
 use borrow.Rule.Slice.PartMut.{putMid}
 use Rattle.formats.specs.Part.{part, put}
 
@@ -16,6 +16,13 @@ part-length a n l h = simp (length-take, length-drop) (omega arith)
 
 pub getD-part : (l : List ℕ) (a n i : ℕ) → i < n → getD (part l a n) i 0 ≡ getD l (a + i) 0
 getD-part l a n i h = getD-take n (drop a l) i 0 h ∙ getD-drop a l i 0
+
+-- a part that starts past the end, and one that reaches to it
+pub part-past : (a n : ℕ) (l : List ℕ) → length l ≤ a → part l a n ≡ []
+part-past a n l h = ap (take n) (drop-of-length-le l {i = a} h) ∙ take-all n [] (omega arith)
+
+pub part-rest : (a n : ℕ) (l : List ℕ) → length l ≤ a + n → part l a n ≡ drop a l
+part-rest a n l h = take-all n (drop a l) (rw length-drop (omega arith))
 
 module _ (l p : List ℕ) (a : ℕ) (within : a + length p ≤ length l) where
   front : length (take a l) ≡ a

@@ -11,4 +11,5 @@ pub mod refusal;
 pub mod request;
 pub mod row;
 pub mod rule;
+pub mod table;
 pub mod title;
