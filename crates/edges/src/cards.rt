@@ -6,9 +6,9 @@ use crate::lines;
 use crate::print;
 use formats::facts::ContentId;
 use formats::head;
-use music_counter::format;
-use music_counter::tally;
-use music_counter::tally::Tallied;
+use tables::format;
+use tables::tally;
+use tables::tally::Tallied;
 
 // A buffer with room for each of the three tables, and a byte more.
 fn buffer(x: u8) -> [u8; 32001]

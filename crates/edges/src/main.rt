@@ -1,4 +1,4 @@
-// Runs the cases of standard input, one a line, on the functions of `formats` and `music_counter`, and prints each line with
+// Runs the cases of standard input, one a line, on the functions of `formats` and `tables`, and prints each line with
 // ` -> ` and the answer. A line whose word is not known, or whose tokens do not fit, is answered `?`.
 //
 // A line is a word and then tokens, with single spaces between. A token is hexadecimal with two digits a byte, `-` for no

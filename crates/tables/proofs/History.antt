@@ -1,0 +1,34 @@
+-- What formatting leaves is fresh, so the history theorem holds of it.
+-- Assumes nothing.
+use Prim.Native.Nat.{ℕ}
+use mathlib.Core.Path.{_≡_, refl}
+use mathlib.Core.List.{List}
+use borrow.Author.Tests.{eq-eqb}
+use Rattle.formats.specs.Head.{freshLedger, freshTitles, freshRules}
+use Rattle.tables.specs.Format.{ledgerConditions, ledgerFormatting, formattedLedger, cardFormatting, formattedTitles, formattedRules}
+use Rattle.tables.specs.History.{FormattedHistory}
+use Rattle.calls.proofs.Refusals.{to-none}
+use Rattle.calls.proofs.Passed.{is-numbered}
+use Rattle.calls.proofs.History.Always.{history}
+
+-- where formatting answers 0 it leaves fresh tables
+pub ledger-fresh : (ledger : List ℕ) (rows application : ℕ) → ledgerFormatting ledger rows ≡ 0 → formattedLedger ledger rows application ≡ freshLedger rows application
+unfolding formattedLedger
+ledger-fresh ledger rows application e = simp (eq-eqb (ledgerFormatting ledger rows) 0 e)
+
+module _ (titles rules : List ℕ) (e : cardFormatting titles rules ≡ 0) where
+  pub titles-fresh : formattedTitles titles rules ≡ freshTitles
+  unfolding formattedTitles
+  titles-fresh = simp (eq-eqb (cardFormatting titles rules) 0 e)
+
+  pub rules-fresh : (application : ℕ) → formattedRules titles rules application ≡ freshRules application
+  unfolding formattedRules
+  rules-fresh application = simp (eq-eqb (cardFormatting titles rules) 0 e)
+
+-- DEMAND 3 of what formatting leaves
+pub formatted-history : FormattedHistory
+unfolding ledgerFormatting
+formatted-history ledger titles rules rows application cardApplication made-ledger made-card ks =
+    let r = is-numbered rows (to-none (ledgerConditions ledger rows) refl made-ledger .0) in
+    rw (ledger-fresh ledger rows application made-ledger, titles-fresh titles rules made-card, rules-fresh titles rules made-card cardApplication)
+    (history rows application cardApplication (r .from) (r .to) ks)

@@ -1,0 +1,55 @@
+-- `tables::format::format_card` meets its contract.
+-- Assumes nothing.
+use mathlib.Core.Path.{refl, _∙_}
+use native.Mathlib.Omega.{arith}
+use borrow.Author.Tests.{eq-eqb, eqb-true}
+use Rattle.formats.specs.Head.{freshTitles, freshRules}
+use Rattle.tables.specs.Format.{cardFormatting, formattedTitles, formattedRules}
+use Rattle.calls.proofs.Refusals.{fails, holds, end, kept, changed}
+use borrow.Author.Needs.{needs}
+use Rattle.tables.proofs.format.format_card.Statement.{statement}
+use Rattle.tables.proofs.format.format_card.Tie as tie
+
+returns : tie.Need-returns
+unfolding cardFormatting formattedTitles formattedRules
+returns c =
+    let e = fails 8 _ _ (λ t. c .if1 .taken (eqb-true _ _ t)) in
+    (e, (kept _ _ e (λ z. omega arith), kept _ _ e (λ z. omega arith)))
+
+returns-2 : tie.Need-returns-2
+unfolding cardFormatting formattedTitles formattedRules
+returns-2 c =
+    let e = holds 8 _ _ (eq-eqb _ _ (c .before .if1 .left)) (fails 9 _ _ (λ t. c .if2 .taken (eqb-true _ _ t))) in
+    (e, (kept _ _ e (λ z. omega arith), kept _ _ e (λ z. omega arith)))
+
+fresh-table-requires : tie.Need-fresh-table-requires
+fresh-table-requires c κs = search needs
+
+fresh-table-requires-2 : tie.Need-fresh-table-requires-2
+fresh-table-requires-2 c κs = search needs
+
+same-length : tie.Need-same-length
+same-length c = search needs
+
+same-length-2 : tie.Need-same-length-2
+same-length-2 c = search needs
+
+returns-3 : tie.Need-returns-3
+unfolding cardFormatting formattedTitles formattedRules freshTitles freshRules
+returns-3 c =
+    let titles = c .before .before .before .before .before .before .before .before .before .if1 .left in
+    let rules = c .before .before .before .before .before .before .before .before .if2 .left in
+    let e = holds 8 _ _ (eq-eqb _ _ titles) (holds 9 _ _ (eq-eqb _ _ rules) end) in
+    (e, (rw titles at (c .before .before .before .before .before .before .fresh-table .ensures) ∙ changed _ _ e refl, rw rules at (c .before .before .fresh-table2 .ensures) ∙ changed _ _ e refl))
+
+pub format-card-spec : {M : Type 1} → statement M
+format-card-spec =
+    tie.close
+    (tie.spec
+    returns
+    returns-2
+    fresh-table-requires
+    fresh-table-requires-2
+    same-length
+    same-length-2
+    returns-3)

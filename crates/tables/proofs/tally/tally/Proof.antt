@@ -1,0 +1,63 @@
+-- `tables::tally::tally` meets its contract: one law of `proofs/tally/Laws` for each return.
+-- Assumes nothing.
+use native.Mathlib.Omega.{arith}
+use borrow.Author.Needs.{needs}
+use Rattle.formats.proofs.head.Laws.{titles-length, rules-length}
+use Rattle.calls.proofs.Passed.{numbered-within, within-numbered}
+use Rattle.tables.proofs.tally.Laws.{titles-passed, rules-passed, content-refused, titles-refused, rules-refused, tallied}
+use Rattle.tables.proofs.tally.tally.Statement.{statement}
+use Rattle.tables.proofs.tally.tally.Tie as tie
+
+returns : tie.Need-returns
+returns c =
+    let id = c .before .before .before .args .content .0 in
+    content-refused _ _ _ (λ t. let r = numbered-within id t in omega (arith, r .from, r .to))
+
+returns-2 : tie.Need-returns-2
+returns-2 c =
+    let id = c .before .before .before .before .args .content .0 in
+    content-refused _ _ _ (λ t. let r = numbered-within id t in omega (arith, r .from, r .to))
+
+check-titles-requires : tie.Need-check-titles-requires
+check-titles-requires c κs = search needs
+
+returns-3 : tie.Need-returns-3
+returns-3 c =
+    let id = c .before .before .before .before .before .before .args .content .0 in
+    titles-refused _ _ _ (within-numbered id (omega arith) (omega arith)) (c .before .check-titles .ensures) (c .if3 .taken)
+
+check-rules-requires : tie.Need-check-rules-requires
+check-rules-requires c κs = search needs
+
+returns-4 : tie.Need-returns-4
+returns-4 c =
+    let x = c .before .before in
+    let id = x .before .before .before .before .before .before .args .content .0 in
+    rules-refused _ _ _ (within-numbered id (omega arith) (omega arith)) (titles-passed _ (x .before .check-titles .ensures) (x .if3 .left))
+    (c .before .check-rules .ensures) (c .if4 .taken)
+
+count-requires : tie.Need-count-requires
+count-requires c κs =
+    let x = c .before .before in
+    (titles-length _ (titles-passed _ (x .before .check-titles .ensures) (x .if3 .left)), rules-length _ (rules-passed _ (c .before .check-rules .ensures) (c .if4 .left)))
+
+returns-5 : tie.Need-returns-5
+returns-5 c =
+    let y = c .before in
+    let x = y .before .before in
+    let id = x .before .before .before .before .before .before .args .content .0 in
+    tallied _ _ _ (within-numbered id (omega arith) (omega arith)) (titles-passed _ (x .before .check-titles .ensures) (x .if3 .left))
+    (rules-passed _ (y .before .check-rules .ensures) (y .if4 .left)) (c .count .ensures)
+
+pub tally-spec : {M : Type 1} → statement M
+tally-spec =
+    tie.close
+    (tie.spec
+    returns
+    returns-2
+    check-titles-requires
+    returns-3
+    check-rules-requires
+    returns-4
+    count-requires
+    returns-5)

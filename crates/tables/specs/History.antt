@@ -1,0 +1,26 @@
+-- Demand 3 of what the code makes: the list starts from the buffers that formatting leaves.
+use Prim.Native.Nat.{ℕ}
+use mathlib.Core.Path.{_≡_}
+use mathlib.Core.List.{List, []}
+use Rattle.formats.specs.declared.request.Request.{Request}
+use Rattle.calls.specs.History.{Run, run, After}
+use Rattle.tables.specs.Format.{ledgerFormatting, formattedLedger, cardFormatting, formattedTitles, formattedRules}
+
+-- no call yet, and the buffers after a ledger and a card were formatted, whatever stood in them
+abbrev pub formatted : List ℕ → List ℕ → List ℕ → ℕ → ℕ → ℕ → Run
+formatted ledger titles rules rows application cardApplication =
+    record {
+      log = [];
+      buffers =
+          record {
+            ledger = formattedLedger ledger rows application;
+            titles = formattedTitles titles rules;
+            rules = formattedRules titles rules cardApplication;
+          };
+    }
+
+-- After every list of calls from a ledger and a card whose formatting answered 0, of every title granted in it.
+abbrev pub FormattedHistory : Type 0
+FormattedHistory =
+    (ledger titles rules : List ℕ) (rows application cardApplication : ℕ) → ledgerFormatting ledger rows ≡ 0 → cardFormatting titles rules ≡ 0
+    → (ks : List Request) → After (run ks (formatted ledger titles rules rows application cardApplication))

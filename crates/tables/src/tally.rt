@@ -1,0 +1,35 @@
+// The tally: how many copies of a title are on a card.
+ghost use mathlib.Core.Path.{_≡_};
+ghost use Rattle.tables.specs.Tally.{tallyNumber, tallyValues, tallyRefusal, talliedValues};
+use crate::copies;
+use formats::facts::ContentId;
+use formats::head;
+use formats::refusal;
+
+// The number of copies, or the refusal, 4, 8 or 9.
+pub enum Tallied {
+    Copies(u64),
+    Refused(u64),
+}
+
+pub fn tally(titles: &[u8], rules: &[u8], content: ContentId) -> Tallied
+    ensures { λ r. ⌜ tallyNumber r ≡ tallyRefusal (now (titles .entry)) (now (rules .entry)) (content .0) ⌝ }
+    ensures { λ r. ⌜ tallyValues r ≡ talliedValues (now (titles .entry)) (now (rules .entry)) (content .0) ⌝ }
+{
+    let id = content.0;
+    if id < 1 {
+        return Tallied::Refused(refusal::CONTENT_ID);
+    }
+    if 999 < id {
+        return Tallied::Refused(refusal::CONTENT_ID);
+    }
+    let w = head::check_titles(titles);
+    if w != 0 {
+        return Tallied::Refused(w);
+    }
+    let w = head::check_rules(rules);
+    if w != 0 {
+        return Tallied::Refused(w);
+    }
+    Tallied::Copies(copies::count(titles, rules, content))
+}
