@@ -1,18 +1,23 @@
--- The laws of `part` and `put`: the same place, places apart, lengths, puts one after the other, and parts that were lent.
+-- The laws of `part`, `put`, `fitting` and `replaced`: the same place, places apart, lengths, puts one after the other, and parts
+-- that were lent.
 -- Assumes nothing.
-use Prim.Native.Nat.{ℕ, _+_, _-_, _≤_, _<_}
+use Prim.Native.Nat.{ℕ, suc, _+_, _-_, _≤_, _<_, min}
 use mathlib.Core.Path.{_≡_, refl, sym, ap, _∙_}
 use mathlib.Core.List.{List, [], _∷_, _++_, append-nil}
-use native.Mathlib.Decide.{decLt}
+use native.Mathlib.Decide.{decLe, decLt}
 use native.Mathlib.Numerals.{add-one}
 use native.Mathlib.Omega.{arith}
 use lib.ListN.{length, take, drop, set, getD, length-take, length-drop, length-append, List·getD-append, drop-of-length-le}
-use lib.Seq.{take-all, drop-drop, getD-take, getD-drop, getD-append-add, length-take-le, ext-getD, set-split}
+use lib.Seq.{take-all, take-take, drop-drop, getD-take, getD-drop, getD-append-add, length-take-le, ext-getD, set-split}
 use borrow.Rule.Slice.PartMut.{putMid}
-use Rattle.formats.specs.Part.{part, put}
+use borrow.Author.Tests.{eq-eqb, ne-eqb}
+use Rattle.formats.specs.Part.{part, put, fitting, replaced}
 
 pub part-length : (a n : ℕ) (l : List ℕ) → a + n ≤ length l → length (part l a n) ≡ n
 part-length a n l h = simp (length-take, length-drop) (omega arith)
+
+pub part-most : (a n : ℕ) (l : List ℕ) → length (part l a n) ≤ n
+part-most a n l = simp length-take (omega arith)
 
 pub getD-part : (l : List ℕ) (a n i : ℕ) → i < n → getD (part l a n) i 0 ≡ getD l (a + i) 0
 getD-part l a n i h = getD-take n (drop a l) i 0 h ∙ getD-drop a l i 0
@@ -23,6 +28,14 @@ part-past a n l h = ap (take n) (drop-of-length-le l {i = a} h) ∙ take-all n [
 
 pub part-rest : (a n : ℕ) (l : List ℕ) → length l ≤ a + n → part l a n ≡ drop a l
 part-rest a n l h = take-all n (drop a l) (rw length-drop (omega arith))
+
+-- the front of a part
+pub part-front : (l : List ℕ) (a n m : ℕ) → part (part l a n) 0 m ≡ part l a (min n m)
+part-front l a n m = go (decLe m n)
+  where
+    go : Dec (m ≤ n) → part (part l a n) 0 m ≡ part l a (min n m)
+    go (yes h) = let e : min n m ≡ m = omega arith in rw e (take-take m n (drop a l) h)
+    go (no h) = let e : min n m ≡ n = omega arith in rw e (take-all m (part l a n) (omega (arith, part-most a n l)))
 
 module _ (l p : List ℕ) (a : ℕ) (within : a + length p ≤ length l) where
   front : length (take a l) ≡ a
@@ -165,6 +178,21 @@ pub set-put : (l : List ℕ) (i v : ℕ) → i < length l → set l i v ≡ put 
 unfolding put
 set-put l i v h = set-split l i v h ∙ ap (λ (k : ℕ). take i l ++ (v ∷ drop k l)) (sym (add-one i))
 
+-- bytes put where there is room for the first of them, for none of them, and for all
+pub fits-next : (l : List ℕ) (a b : ℕ) (p : List ℕ) → a < length l → fitting l a (b ∷ p) ≡ b ∷ fitting l (a + 1) p
+fits-next l a b p h = let e : length l - a ≡ suc (length l - (a + 1)) = omega arith in rw e refl
+
+pub fits-none : (l : List ℕ) (a : ℕ) (p : List ℕ) → length l ≤ a → fitting l a p ≡ []
+fits-none l a p h = let e : length l - a ≡ 0 = omega arith in rw e refl
+
+pub fits-all : (l : List ℕ) (a : ℕ) (p : List ℕ) → a + length p ≤ length l → fitting l a p ≡ p
+fits-all l a p h = take-all (length l - a) p (omega arith)
+
+-- a put of all of them
+pub put-fitting : {r : ℕ} {m : List ℕ} (l : List ℕ) (a : ℕ) (p : List ℕ) → a + length p ≤ length l → (r ≡ a + length (fitting l a p)) × (m ≡ put l a (fitting l a p))
+    → (r ≡ a + length p) × (m ≡ put l a p)
+put-fitting l a p h e = rw (fits-all l a p h) at e
+
 -- a part that was lent as `&l[a..a + n]`
 pub lent : (a n : ℕ) (l : List ℕ) → a + n ≤ length l → (take ((a + n) - a) (drop a l) ≡ part l a n) × (length (take ((a + n) - a) (drop a l)) ≡ n)
 lent a n l h =
@@ -176,3 +204,10 @@ lent a n l h =
 pub back : (a n : ℕ) (l p : List ℕ) → length p ≡ n → putMid a n l p ≡ put l a p
 unfolding put
 back a n l p e = ap (λ (z : List ℕ). take a l ++ (p ++ z)) (drop-drop n a l ∙ ap (λ (k : ℕ). drop (a + k) l) (sym e))
+
+-- a part that was lent with the length that its writer asks for, and with another
+pub replaced-whole : (n : ℕ) (new old : List ℕ) → length old ≡ n → replaced n new old ≡ new
+replaced-whole n new old e = simp (eq-eqb (length old) n e)
+
+pub replaced-not : (n : ℕ) (new old : List ℕ) → (length old ≡ n → ⊥) → replaced n new old ≡ old
+replaced-not n new old e = simp (ne-eqb (length old) n e)

@@ -7,8 +7,8 @@ use native.Mathlib.Omega.{arith}
 use native.Mathlib.Numerals.{add-one}
 use lib.ListN.{length, take, drop, set, length-set, length-take, length-append, take-append-drop}
 use lib.Seq.{take-suc-set, drop-set-lt, drop-drop, append-snoc, take-at, drop-at}
-use Rattle.formats.specs.Part.{put}
-use Rattle.formats.proofs.Part.{put-length}
+use Rattle.formats.specs.Part.{put, fitting}
+use Rattle.formats.proofs.Part.{put-length, fits-next}
 
 -- out was out₀; of the bytes w, those before place i stand in it, from place a on, and those in `left` are still to be stored
 pub record Storing (w out₀ : List ℕ) (a : ℕ) (out : List ℕ) (i : ℕ) (left : List ℕ) : Type 0 where
@@ -35,6 +35,11 @@ store {w} {out₀} {a} {out} {i} {b} {left} r h =
       from = omega (arith, r .from);
       count = omega (arith, r .count);
     }
+
+-- the same where the bytes that are left are those of p for which there is room
+pub store-fitting : {w out₀ : List ℕ} {a : ℕ} {out : List ℕ} {i : ℕ} (p : List ℕ) {b : ℕ} {left : List ℕ} → Storing w out₀ a out i (fitting out₀ i p) → p ≡ b ∷ left
+    → i < length out → Storing w out₀ a (set out i b) (i + 1) (fitting out₀ (i + 1) left)
+store-fitting {out₀ = out₀} {i = i} p {b} {left} r e h = store (rw (e, fits-next out₀ i b left (omega (arith, r .size))) at r) h
 
 -- or the next bytes at once
 pub store-all : {w out₀ : List ℕ} {a : ℕ} {out : List ℕ} {i : ℕ} (p : List ℕ) {left : List ℕ} → Storing w out₀ a out i (p ++ left)
@@ -67,3 +72,7 @@ done {w} {out₀} {a} {out} {i} r =
     sym (take-append-drop i out)
     ∙ ap₂ _++_ (sym (append-nil (take i out)) ∙ r .all) (r .tail ∙ ap (λ (k : ℕ). drop k out₀) n)
     ∙ append-assoc (take a out₀) w (drop (a + length w) out₀)
+
+-- with the place after it
+pub stored : {w out₀ : List ℕ} {a : ℕ} {out : List ℕ} {i : ℕ} {left : List ℕ} → Storing w out₀ a out i left → left ≡ [] → (i ≡ a + length w) × (out ≡ put out₀ a w)
+stored r e = let s = rw e at r in (omega (arith, s .count), done s)

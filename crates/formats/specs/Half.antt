@@ -1,8 +1,8 @@
 -- What title halves and rule halves have in common: key, flag and content ID in their first 16 bytes.
 use Prim.Native.Nat.{ℕ, _+_, _*_, _/_, _%_}
 use mathlib.Core.List.{List, [], _∷_, _++_}
-use mathlib.Core.Bool.{Bool, not, _&&_}
-use lib.ListN.{getD}
+use mathlib.Core.Bool.{Bool, not, _&&_, cond}
+use lib.ListN.{length, getD}
 use lib.Dec.{leb, eqb}
 use Rattle.formats.specs.Part.{part, put}
 use Rattle.formats.specs.Field.{number, bytesOf}
@@ -30,3 +30,7 @@ halfBytes first key id = first ∷ (bytesOf 7 key ++ (128 ∷ 0 ∷ 0 ∷ 0 ∷ 
 -- "bytes 0-7 set to f1 and its flag 0 .. A wipe changes nothing else."
 unfoldable pub wiped : List ℕ → ℕ → List ℕ
 wiped h f = put h 0 (bytesOf 8 f ++ (getD h 8 0 % 128 ∷ []))
+
+-- a half that was lent to be written, with 16 bytes or more: the bytes `new`; a shorter part is left as it is
+abbrev pub changedHalf : List ℕ → List ℕ → List ℕ
+changedHalf new old = cond (leb 16 (length old)) new old

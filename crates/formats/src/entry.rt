@@ -1,6 +1,5 @@
 // What the two halves of an entry are together.
 ghost use mathlib.Core.Path.{_≡_};
-ghost use lib.ListN.{length};
 ghost use Rattle.formats.specs.Entry.{kindOf, entryFacts};
 use crate::facts::Facts;
 use crate::half;
@@ -20,7 +19,6 @@ pub enum EntryKind {
 
 // The title half is tested first: where it is not usable, only the rule half's flag and ID are looked at.
 pub fn kind(title: &[u8], rule: &[u8]) -> EntryKind
-    requires { ⌜ (length (now title) ≡ 16) × (length (now rule) ≡ 32) ⌝ }
     ensures { λ r. ⌜ r ≡ kindOf (now (title .entry)) (now (rule .entry)) ⌝ }
 {
     let id = half::content_id(title).0;
@@ -47,7 +45,6 @@ pub fn kind(title: &[u8], rule: &[u8]) -> EntryKind
 
 // The facts that a full entry holds.
 pub fn facts(title: &[u8], rule: &[u8]) -> Facts
-    requires { ⌜ (length (now title) ≡ 16) × (length (now rule) ≡ 32) ⌝ }
     ensures { λ r. ⌜ r ≡ entryFacts (now (title .entry)) (now (rule .entry)) ⌝ }
 {
     Facts {

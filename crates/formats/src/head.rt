@@ -1,25 +1,22 @@
 // The heads of the ledger and of the two card tables. A buffer that is too short for its head is refused and not read.
 ghost use mathlib.Core.Path.{_≡_};
-ghost use Prim.Native.Nat.{_≤_};
-ghost use lib.ListN.{length};
 ghost use Rattle.formats.specs.Head.{ledgerApplication, rowsOf, ledgerAnswer, tablePasses, titlesAnswer, rulesApplication, rulesAnswer, rulesAnswerFor};
 use crate::field;
 use crate::refusal;
+use crate::table;
 
 // The ledger's application number.
 pub fn ledger_application(ledger: &[u8]) -> u64
-    requires { ⌜ 24 ≤ length (now ledger) ⌝ }
     ensures { λ r. ⌜ r ≡ ledgerApplication (now (ledger .entry)) ⌝ }
 {
-    field::read(&ledger[0..2])
+    field::read_at(ledger, 0, 2)
 }
 
 // R, the number of rows after the head.
 pub fn rows(ledger: &[u8]) -> u64
-    requires { ⌜ 24 ≤ length (now ledger) ⌝ }
     ensures { λ r. ⌜ r ≡ rowsOf (now (ledger .entry)) ⌝ }
 {
-    field::read(&ledger[2..4])
+    field::read_at(ledger, 2, 2)
 }
 
 // 0 where the ledger's length and head are right, else 7.
@@ -44,25 +41,24 @@ pub fn check_ledger(ledger: &[u8]) -> u64
 
 // What the heads of both card tables have: identifier, size, count of entries, length of an entry, mark.
 fn check_table(table: &[u8], identifier: u64, size: usize, width: u8, mark: u8) -> bool
-    requires { ⌜ 32 ≤ size ⌝ }
     ensures { λ r. ⌜ r ≡ tablePasses identifier size width mark (now (table .entry)) ⌝ }
 {
     if table.len() != size {
         return false;
     }
-    if field::read(&table[0..2]) != identifier {
+    if field::read_at(table, 0, 2) != identifier {
         return false;
     }
-    if field::read(&table[4..8]) != size as u64 {
+    if field::read_at(table, 4, 4) != size as u64 {
         return false;
     }
-    if field::read(&table[10..12]) != 999 {
+    if field::read_at(table, 10, 2) != 999 {
         return false;
     }
-    if table[12] != width {
+    if table::byte(table, 12) != width {
         return false;
     }
-    table[13] == mark
+    table::byte(table, 13) == mark
 }
 
 // 0 where the title table's length and head are right, else 8.
@@ -78,7 +74,7 @@ pub fn check_titles(titles: &[u8]) -> u64
             return refusal::TITLES;
         }
     }
-    if field::read(&titles[8..10]) != 0 {
+    if field::read_at(titles, 8, 2) != 0 {
         return refusal::TITLES;
     }
     0
@@ -86,10 +82,9 @@ pub fn check_titles(titles: &[u8]) -> u64
 
 // The rule table's application number.
 pub fn rules_application(rules: &[u8]) -> u64
-    requires { ⌜ 32 ≤ length (now rules) ⌝ }
     ensures { λ r. ⌜ r ≡ rulesApplication (now (rules .entry)) ⌝ }
 {
-    field::read(&rules[8..10])
+    field::read_at(rules, 8, 2)
 }
 
 // 0 where the rule table's length and head are right, whatever its application number, else 9. A version above 11h is

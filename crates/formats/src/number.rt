@@ -2,7 +2,7 @@
 ghost use mathlib.Core.Path.{_≡_};
 ghost use Prim.Native.Nat.{_+_, _≤_};
 ghost use lib.ListN.{length};
-ghost use Rattle.formats.specs.Part.{put};
+ghost use Rattle.formats.specs.Part.{put, fitting};
 ghost use Rattle.formats.specs.Number.{groups, readNumber, writing, writtenTo};
 use crate::refusal;
 
@@ -68,18 +68,23 @@ pub fn len(x: u64) -> usize
     n
 }
 
-// Writes `x` from place `at` of `out` on, where there is room for it, and answers the place after it.
+// Writes `x` from place `at` of `out` on, as many of its bytes as there is room for, and answers the place after them.
 pub fn write_at(x: u64, out: &mut [u8], at: usize) -> usize
-    requires { ⌜ at + length (groups x) ≤ length (now out) ⌝ }
-    ensures { λ r. ⌜ r ≡ at + length (groups x) ⌝ }
-    ensures { λ _. ⌜ now (out .exit) ≡ put (now (out .entry)) at (groups x) ⌝ }
+    ensures { λ r. ⌜ r ≡ at + length (fitting (now (out .entry)) at (groups x)) ⌝ }
+    ensures { λ _. ⌜ now (out .exit) ≡ put (now (out .entry)) at (fitting (now (out .entry)) at (groups x)) ⌝ }
 {
     let mut left = x;
     let mut i = at;
     while 128 <= left {
+        if out.len() <= i {
+            return i;
+        }
         out[i] = (128 + left % 128) as u8;
         left = left >> 7;
         i += 1;
+    }
+    if out.len() <= i {
+        return i;
     }
     out[i] = left as u8;
     i + 1

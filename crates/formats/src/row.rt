@@ -1,10 +1,11 @@
-// A row of the ledger: the 24 bytes of it that a title has.
+// A row of the ledger: the 24 bytes of it that a title has. A part of another length is left as it is.
 ghost use mathlib.Core.Path.{_≡_};
-ghost use lib.ListN.{length};
+ghost use Rattle.formats.specs.Part.{replaced};
 ghost use Rattle.formats.specs.Facts.{inRange};
 ghost use Rattle.formats.specs.Row.{factsOf, stateOf, hereRow, plainRow, withPermits};
 use crate::facts::Facts;
 use crate::field;
+use crate::table;
 
 pub enum RowState {
     Empty,
@@ -46,24 +47,22 @@ fn in_range(facts: Facts) -> bool
 }
 
 fn facts(row: &[u8]) -> Facts
-    requires { ⌜ length (now row) ≡ 24 ⌝ }
     ensures { λ r. ⌜ r ≡ factsOf (now (row .entry)) ⌝ }
 {
     Facts {
-        cci: row[1] as u64,
-        trigger: row[2] as u64,
-        rights: row[3] as u64,
-        permits: row[4] as u64,
-        title_key: field::read(&row[8..15]),
-        sti_key: field::read(&row[16..23]),
+        cci: table::byte(row, 1) as u64,
+        trigger: table::byte(row, 2) as u64,
+        rights: table::byte(row, 3) as u64,
+        permits: table::byte(row, 4) as u64,
+        title_key: field::read_at(row, 8, 7),
+        sti_key: field::read_at(row, 16, 7),
     }
 }
 
 pub fn state(row: &[u8]) -> RowState
-    requires { ⌜ length (now row) ≡ 24 ⌝ }
     ensures { λ r. ⌜ r ≡ stateOf (now (row .entry)) ⌝ }
 {
-    let first = row[0];
+    let first = table::byte(row, 0);
     if first == EMPTY {
         return RowState::Empty;
     }
@@ -85,14 +84,16 @@ pub fn state(row: &[u8]) -> RowState
 
 // Writes all 24 bytes of a row that is here.
 pub fn write_here(row: &mut [u8], facts: Facts)
-    requires { ⌜ length (now row) ≡ 24 ⌝ }
-    ensures { λ _. ⌜ now (row .exit) ≡ hereRow facts ⌝ }
+    ensures { λ _. ⌜ now (row .exit) ≡ replaced 24 (hereRow facts) (now (row .entry)) ⌝ }
 {
+    if row.len() != 24 {
+        return;
+    }
     row[0] = HERE;
-    row[1] = field::byte_at(facts.cci, 0);
-    row[2] = field::byte_at(facts.trigger, 0);
-    row[3] = field::byte_at(facts.rights, 0);
-    row[4] = field::byte_at(facts.permits, 0);
+    row[1] = field::low_byte(facts.cci);
+    row[2] = field::low_byte(facts.trigger);
+    row[3] = field::low_byte(facts.rights);
+    row[4] = field::low_byte(facts.permits);
     field::write(&mut row[5..8], 0);
     field::write(&mut row[8..15], facts.title_key);
     row[15] = 0;
@@ -102,9 +103,11 @@ pub fn write_here(row: &mut [u8], facts: Facts)
 
 // Writes all 24 bytes of a row in another state: its number, and zeros.
 pub fn write_plain(row: &mut [u8], state: u8)
-    requires { ⌜ length (now row) ≡ 24 ⌝ }
-    ensures { λ _. ⌜ now (row .exit) ≡ plainRow state ⌝ }
+    ensures { λ _. ⌜ now (row .exit) ≡ replaced 24 (plainRow state) (now (row .entry)) ⌝ }
 {
+    if row.len() != 24 {
+        return;
+    }
     row[0] = state;
     let mut i: usize = 1;
     while i < 24 {
@@ -115,8 +118,10 @@ pub fn write_plain(row: &mut [u8], state: u8)
 
 // Writes byte 4 and no other.
 pub fn write_permits(row: &mut [u8], permits: u64)
-    requires { ⌜ length (now row) ≡ 24 ⌝ }
-    ensures { λ _. ⌜ now (row .exit) ≡ withPermits (now (row .entry)) permits ⌝ }
+    ensures { λ _. ⌜ now (row .exit) ≡ replaced 24 (withPermits (now (row .entry)) permits) (now (row .entry)) ⌝ }
 {
-    row[4] = field::byte_at(permits, 0);
+    if row.len() != 24 {
+        return;
+    }
+    row[4] = field::low_byte(permits);
 }

@@ -23,10 +23,6 @@ length-bytesOf (suc n) x = ap suc (length-bytesOf n x)
 pub filled : {p : List ℕ} {m n : ℕ} (x : ℕ) → p ≡ bytesOf m x → m ≡ n → p ≡ bytesOf n x
 filled x e h = e ∙ ap (λ (k : ℕ). bytesOf k x) h
 
--- the lowest byte
-pub low-byte : {a : ℕ} (x : ℕ) → a ≡ x / 2 ^ 0 % 256 → a ≡ x % 256
-low-byte x e = omega arith
-
 -- a field of n bytes holds a number's low 8 n bits
 pub number-bytesOf : (n x : ℕ) → number (bytesOf n x) ≡ x % 2 ^ (8 * n)
 unfolding bytesOf number

@@ -10,15 +10,22 @@ use native.Mathlib.Decide.{decLe}
 use lib.Dec.{eqb}
 use lib.ListN.{length, drop, getD, replicate, length-append, List·getD-append, getD-replicate}
 use lib.Seq.{getD-drop}
-use borrow.Author.Tests.{lt-leb, ne-eqb, eqb-false, not-true}
+use borrow.Author.Tests.{le-leb, lt-leb, ne-eqb, eqb-false, not-true}
 use Rattle.formats.specs.Part.{put}
 use Rattle.formats.specs.Field.{number, bytesOf}
-use Rattle.formats.specs.Half.{keyOf, flagOf, idOf, usableOf, halfBytes, wiped}
+use Rattle.formats.specs.Half.{keyOf, flagOf, idOf, usableOf, halfBytes, wiped, changedHalf}
 use Rattle.formats.proofs.Part.{put-length, getD-put-before, part-put-before}
 use Rattle.formats.proofs.Bytes.{Bytes, Listed, none, more, then, zeros, field, bytes-put}
 use Rattle.formats.proofs.Tests.{split}
 use Rattle.formats.proofs.Zeros.{zero-at}
 use Rattle.formats.proofs.field.Laws.{length-bytesOf, number-bytesOf}
+
+-- a half that was lent with 16 bytes or more, and a shorter part
+pub changed-half : (new old : List ℕ) → 16 ≤ length old → changedHalf new old ≡ new
+changed-half new old h = simp (le-leb 16 (length old) h)
+
+pub short-half : (new old : List ℕ) → length old < 16 → changedHalf new old ≡ old
+short-half new old h = simp (lt-leb 16 (length old) h)
 
 -- the first bytes of a written half are 16
 pub length-halfBytes : (first key id : ℕ) → length (halfBytes first key id) ≡ 16

@@ -18,9 +18,9 @@ use Rattle.formats.specs.declared.request.Argument.{Argument}
 use Rattle.formats.specs.declared.request.Argument.the-variants.{Content, Entry, Cci, Trigger, Rights, Permits, Key, Any}
 use Rattle.formats.specs.declared.request.Request.{Request}
 use Rattle.formats.specs.declared.request.Request.the-variants.{Register, Record, CheckOut, CheckIn, MoveOut, MoveIn, Delete}
-use Rattle.formats.specs.Part.{put}
+use Rattle.formats.specs.Part.{put, fitting}
 use Rattle.formats.proofs.Bits.{low-four}
-use Rattle.formats.proofs.Part.{put-next}
+use Rattle.formats.proofs.Part.{put-next, put-fitting}
 use Rattle.formats.proofs.Stores.{Storing, store-all, done as store-done}
 
 -- an argument's four bits stand for it
@@ -236,15 +236,16 @@ module _ {s : List Argument} {vs out₀ : List ℕ} {a : ℕ} {out : List ℕ} {
   split = let x = next (inv .left-is) n in numbers-next vs x (omega (arith, x .here, inv .size))
 
   -- there is room for the next number
-  pub room-next : at + length (groups (getD vs i 0)) ≤ length out
+  room-next : at + length (groups (getD vs i 0)) ≤ length out
   room-next = omega (arith, inv .storing .count, inv .storing .size, inv .room, simp length-append at (ap length split))
 
-  pub put-number : {out′ : List ℕ} {at′ : ℕ} → at′ ≡ at + length (groups (getD vs i 0)) → out′ ≡ put out at (groups (getD vs i 0))
+  pub put-number : {out′ : List ℕ} {at′ : ℕ} → (at′ ≡ at + length (fitting out at (groups (getD vs i 0)))) × (out′ ≡ put out at (fitting out at (groups (getD vs i 0))))
       → Putting s vs out₀ a out′ (left / 16) at′ (i + 1)
-  put-number e f =
+  put-number e =
+      let whole = put-fitting out at (groups (getD vs i 0)) room-next e in
       record {
         left-is = next (inv .left-is) n .again;
-        storing = rw (e, f) (store-all (groups (getD vs i 0)) (rw split at (inv .storing)) room-next);
+        storing = rw (whole .0, whole .1) (store-all (groups (getD vs i 0)) (rw split at (inv .storing)) room-next);
         size = inv .size;
         room = inv .room;
       }
@@ -252,6 +253,11 @@ module _ {s : List Argument} {vs out₀ : List ℕ} {a : ℕ} {out : List ℕ} {
 pub put-done : {s : List Argument} {vs out₀ : List ℕ} {a : ℕ} {out : List ℕ} {left at i : ℕ} → Putting s vs out₀ a out left at i → left ≡ 0
     → out ≡ put out₀ a (numbersFor s vs)
 put-done {vs = vs} inv z = store-done (rw (numbers-none vs (inv .left-is) z) at (inv .storing))
+
+-- a request's kind is put whole where there is room for the request
+pub put-kind : {q : Request} {kind : ℕ} {vs out₁ : List ℕ} {a : ℕ} (out : List ℕ) → Holds q kind vs → length (written q) ≤ length out
+    → (a ≡ 0 + length (fitting out 0 (groups kind))) × (out₁ ≡ put out 0 (fitting out 0 (groups kind))) → (a ≡ 0 + length (groups kind)) × (out₁ ≡ put out 0 (groups kind))
+put-kind {kind = kind} out h room e = put-fitting out 0 (groups kind) (omega (arith, simp length-append at (ap length (written-is h)))) e
 
 -- a request's kind and then its numbers, put one after the other, are its written form
 pub put-written : {q : Request} {kind : ℕ} {vs out₁ : List ℕ} {a : ℕ} {out₂ : List ℕ} (out : List ℕ) → Holds q kind vs → length (written q) ≤ length out

@@ -2,6 +2,7 @@
 -- Assumes nothing.
 use Prim.Native.Nat.{_-_}
 use native.Mathlib.Omega.{arith}
+use borrow.Author.Needs.{needs}
 use lib.ListN.{length}
 use Rattle.formats.proofs.field.Laws.{Writing, write-start, write-next, write-done}
 use Rattle.formats.proofs.field.write.Statement.{statement}
@@ -16,20 +17,14 @@ abbrev μ-loop : tie.MeasureT-loop
 loop-holds : tie.Need-loop-holds Inv-loop μ-loop
 loop-holds c = write-start _ _
 
-sub-shift : tie.Need-sub-shift Inv-loop μ-loop
-sub-shift c = omega arith
+sub-byte-at : tie.Need-sub-byte-at Inv-loop μ-loop
+sub-byte-at c = omega arith
 
-sub-shift-2 : tie.Need-sub-shift-2 Inv-loop μ-loop
-sub-shift-2 c = omega arith
-
-mul-shift : tie.Need-mul-shift Inv-loop μ-loop
-mul-shift c = omega arith
-
-cast-byte-at : tie.Need-cast-byte-at Inv-loop μ-loop
-cast-byte-at c = omega arith
+sub-byte-at-2 : tie.Need-sub-byte-at-2 Inv-loop μ-loop
+sub-byte-at-2 c = omega arith
 
 byte-at-requires : tie.Need-byte-at-requires Inv-loop μ-loop
-byte-at-requires c κs = omega arith
+byte-at-requires c κs = search needs
 
 slice-write-field : tie.Need-slice-write-field Inv-loop μ-loop
 slice-write-field c = omega arith
@@ -57,10 +52,8 @@ write-spec =
     Inv-loop
     μ-loop
     loop-holds
-    sub-shift
-    sub-shift-2
-    mul-shift
-    cast-byte-at
+    sub-byte-at
+    sub-byte-at-2
     byte-at-requires
     slice-write-field
     add-i

@@ -14,6 +14,7 @@ use Rattle.formats.proofs.Bits.{low-seven}
 use Rattle.formats.proofs.Part.{set-put, puts-apart, put-next}
 use Rattle.formats.proofs.Writes.{wrote-start, wrote-field}
 use Rattle.formats.proofs.field.Laws.{length-bytesOf}
+use Rattle.formats.proofs.half.Laws.{changed-half, short-half}
 use Rattle.formats.proofs.half.wipe.Statement.{statement}
 use Rattle.formats.proofs.half.wipe.Tie as tie
 
@@ -26,6 +27,9 @@ cleared h f v size =
     (sym (puts-apart h (bytesOf 8 f) (v ∷ []) 0 8 (omega arith) (omega arith))
     ∙ ap (λ (a : ℕ). put (put h 0 (bytesOf 8 f)) a (v ∷ [])) e
     ∙ put-next h (bytesOf 8 f) (v ∷ []) 0 (omega arith))
+
+returns : tie.Need-returns
+returns c = sym (short-half _ _ (omega arith))
 
 slice-read-half : tie.Need-slice-read-half
 slice-read-half c = search needs
@@ -48,10 +52,10 @@ write-requires c κs = search needs
 same-length : tie.Need-same-length
 same-length c = omega (arith, simp length-set at (c .before .half .given .1))
 
-returns : tie.Need-returns
+returns-2 : tie.Need-returns-2
 unfolding wiped
-returns c =
-    let a = c .before .before .before .before .before .before .args in
+returns-2 c =
+    let a = c .before .before .before .before .before .before .before .args in
     let h = a .half .now in
     let f = a .filler in
     let v = bitAnd (getD h 8 0) 127 in
@@ -59,11 +63,13 @@ returns c =
     wrote-field 8 f (wrote-start 0 (set h 8 v) (omega arith)) room (c .before .before .write .ensures) .is
     ∙ cleared h f v (omega arith)
     ∙ ap (λ (z : ℕ). put h 0 (bytesOf 8 f ++ (z ∷ []))) (low-seven (getD h 8 0))
+    ∙ sym (changed-half (wiped h f) h (omega arith))
 
 pub wipe-spec : {M : Type 1} → statement M
 wipe-spec =
     tie.close
     (tie.spec
+    returns
     slice-read-half
     slice-write-half
     sub-write
@@ -71,4 +77,4 @@ wipe-spec =
     part-write-end
     write-requires
     same-length
-    returns)
+    returns-2)

@@ -1,7 +1,7 @@
 -- `formats::half::write` meets its contract: the first byte, the key, and bytes 8 to 15 as one field.
 -- Assumes nothing.
 use Prim.Native.Nat.{ℕ, _+_, _/_, _%_, _^_}
-use mathlib.Core.Path.{_≡_, ap, _∙_}
+use mathlib.Core.Path.{_≡_, sym, ap, _∙_}
 use mathlib.Core.List.{List, [], _∷_, _++_}
 use native.Mathlib.Omega.{arith}
 use lib.Bits.{bitAnd, bitOr, and-mask, or-shifted}
@@ -11,6 +11,7 @@ use Rattle.formats.specs.Part.{put}
 use Rattle.formats.specs.Field.{bytesOf}
 use Rattle.formats.specs.Half.{halfBytes}
 use Rattle.formats.proofs.Writes.{wrote-start, wrote-byte, wrote-field}
+use Rattle.formats.proofs.half.Laws.{changed-half, short-half}
 use Rattle.formats.proofs.half.write.Statement.{statement}
 use Rattle.formats.proofs.half.write.Tie as tie
 
@@ -32,6 +33,9 @@ marked id =
     let byte-14 : x / 2 ^ 8 % 256 ≡ id / 256 % 4 = omega arith in
     let byte-15 : x / 2 ^ 0 % 256 ≡ id % 256 = omega arith in
     cc
+
+returns : tie.Need-returns
+returns c = sym (short-half _ _ (omega arith))
 
 slice-write-half : tie.Need-slice-write-half
 slice-write-half c = search needs
@@ -63,20 +67,23 @@ write-requires-2 c κs = search needs
 same-length : tie.Need-same-length
 same-length c = omega (arith, c .before .half2 .given .1, simp length-set at (c .before .before .before .before .before .half .given .1))
 
-returns : tie.Need-returns
+returns-2 : tie.Need-returns-2
 unfolding halfBytes
-returns c =
-    let a = c .before .before .before .before .before .before .before .before .before .args in
+returns-2 c =
+    let a = c .before .before .before .before .before .before .before .before .before .before .args in
+    let h = a .half .now in
     let id = a .content .0 in
-    let w = wrote-byte (a .first) (wrote-start 0 (a .half .now) (omega arith)) (omega arith) in
+    let w = wrote-byte (a .first) (wrote-start 0 h (omega arith)) (omega arith) in
     let v = wrote-field 7 (a .key) w (omega arith) (c .before .before .before .before .before .before .write .ensures) in
     wrote-field 8 (bitOr (2 ^ 63) (bitAnd id 1023)) v (omega arith) (c .before .before .write2 .ensures) .is
-    ∙ ap (λ (z : List ℕ). put (a .half .now) 0 (a .first ∷ (bytesOf 7 (a .key) ++ z))) (ap (bytesOf 8) (mark id) ∙ marked id)
+    ∙ ap (λ (z : List ℕ). put h 0 (a .first ∷ (bytesOf 7 (a .key) ++ z))) (ap (bytesOf 8) (mark id) ∙ marked id)
+    ∙ sym (changed-half (put h 0 (halfBytes (a .first) (a .key) id)) h (omega arith))
 
 pub write-spec : {M : Type 1} → statement M
 write-spec =
     tie.close
     (tie.spec
+    returns
     slice-write-half
     sub-write
     part-write-start
@@ -87,4 +94,4 @@ write-spec =
     part-write-end-2
     write-requires-2
     same-length
-    returns)
+    returns-2)

@@ -8,7 +8,7 @@ use borrow.Author.Tests.{eq-eqb}
 use Rattle.formats.specs.Head.{rulesPass}
 use native.Mathlib.Omega.{arith}
 use Rattle.formats.proofs.Tests.{both, passes, passed}
-use Rattle.formats.proofs.head.Laws.{rules-head, rules-pass, rules-refused-for}
+use Rattle.formats.proofs.head.Laws.{rules-pass, rules-refused-for}
 use borrow.Author.Needs.{needs}
 use Rattle.formats.proofs.head.check_rules_for.Statement.{statement}
 use Rattle.formats.proofs.head.check_rules_for.Tie as tie
@@ -24,7 +24,7 @@ returns : tie.Need-returns
 returns c = rules-refused-for (λ h e. let p = passes 9 (rules-pass h) in omega arith)
 
 rules-application-requires : tie.Need-rules-application-requires
-rules-application-requires c κs = let h = rules-head (answered c) in omega arith
+rules-application-requires c κs = search needs
 
 returns-2 : tie.Need-returns-2
 returns-2 c = rules-refused-for (λ h e. omega arith)

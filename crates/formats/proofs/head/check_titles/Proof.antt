@@ -20,23 +20,14 @@ shared-slice-read-version c = let h = table-held (c .before .before .check-table
 returns-2 : tie.Need-returns-2
 returns-2 c = titles-refused (λ h. ⊎-elim (λ v. omega arith) (λ v. omega arith) (h .version))
 
-sub-read : tie.Need-sub-read
-sub-read c = search needs
-
-part-read-start : tie.Need-part-read-start
-part-read-start c = search needs
-
-part-read-end : tie.Need-part-read-end
-part-read-end c = let h = table-held (c .before .before .before .check-table .ensures) (c .before .before .if1 .left) in omega arith
-
-read-requires : tie.Need-read-requires
-read-requires c κs = search needs
+read-at-requires : tie.Need-read-at-requires
+read-at-requires c κs = search needs
 
 returns-3 : tie.Need-returns-3
 returns-3 c = titles-refused (λ h. omega arith)
 
 returns-4 : tie.Need-returns-4
-returns-4 c = passes 8 (titles-pass (record { table = table-held (c .before .before .before .before .before .before .check-table .ensures) (c .before .before .before .before .before .if1 .left); version = ⊎-elim (λ w. inr (omega arith)) (λ w. inl (omega arith)) (c .before .before .before .if2 .came); zero = omega arith }))
+returns-4 c = passes 8 (titles-pass (record { table = table-held (c .before .before .before .before .before .check-table .ensures) (c .before .before .before .before .if1 .left); version = ⊎-elim (λ w. inr (omega arith)) (λ w. inl (omega arith)) (c .before .before .if2 .came); zero = omega arith }))
 
 pub check-titles-spec : {M : Type 1} → statement M
 check-titles-spec =
@@ -46,9 +37,6 @@ check-titles-spec =
     returns
     shared-slice-read-version
     returns-2
-    sub-read
-    part-read-start
-    part-read-end
-    read-requires
+    read-at-requires
     returns-3
     returns-4)

@@ -4,6 +4,7 @@ use borrow.Author.Needs.{needs}
 use native.Mathlib.Omega.{arith}
 use denote.Ref.{now}
 use Rattle.formats.specs.Number.{groups}
+use Rattle.formats.proofs.Part.{put-fitting}
 use Rattle.formats.proofs.number.Laws.{too-short, wrote}
 use Rattle.formats.proofs.number.write.Statement.{statement}
 use Rattle.formats.proofs.number.write.Tie as tie
@@ -25,7 +26,8 @@ same-length c = search needs
 returns-2 : tie.Need-returns-2
 returns-2 c =
     let a = c .before .before .before .before .before .before .before .args in
-    wrote (groups (a .x)) (now (a .out)) (omega arith) (omega arith) (c .before .before .write-at .ensures .1)
+    let put = put-fitting (now (a .out)) 0 (groups (a .x)) (omega arith) (c .before .before .write-at .ensures) in
+    wrote (groups (a .x)) (now (a .out)) (omega arith) (omega arith) (put .1)
 
 pub write-spec : {M : Type 1} → statement M
 write-spec = tie.close (tie.spec len-requires returns write-at-requires same-length returns-2)

@@ -7,7 +7,7 @@ use denote.Ref.{now}
 use lib.ListN.{length, length-append}
 use Rattle.formats.specs.Request.{schema}
 use Rattle.formats.proofs.Stores.{start as store-start}
-use Rattle.formats.proofs.request.Packing.{start, within, schema-size, nine, numbersFor, written-is, Putting, room-next, put-number, put-done, put-written}
+use Rattle.formats.proofs.request.Packing.{start, within, schema-size, nine, numbersFor, written-is, Putting, put-number, put-done, put-kind, put-written}
 use Rattle.formats.proofs.request.store.Statement.{statement}
 use Rattle.formats.proofs.request.store.Tie as tie
 
@@ -24,18 +24,19 @@ packed-schema-requires : tie.Need-packed-schema-requires Inv-loop μ-loop
 packed-schema-requires c κs = search needs
 
 write-at-requires : tie.Need-write-at-requires Inv-loop μ-loop
-write-at-requires c κs = omega (arith, simp length-append at (ap length (written-is (c .before .before .before .numbers-of .ensures))))
+write-at-requires c κs = search needs
 
 loop-holds : tie.Need-loop-holds Inv-loop μ-loop
 loop-holds c =
     let write = c .before .before .write-at in
     let numbers = c .before .before .before .before .before .before .numbers-of in
+    let first = c .before .before .before .before .before .before .before .before in
     let kind = numbers .result .kind in
     record {
       left-is = start (schema kind) (c .before .before .before .before .packed-schema .ensures);
       storing = store-start (numbersFor (schema kind) (numbers .result .values)) (write .last .1 .0) (write .result);
       size = nine (numbers .ensures);
-      room = omega (arith, write .ensures .0, write .kept .1 .0, simp length-append at (ap length (written-is (numbers .ensures))));
+      room = omega (arith, put-kind (now (first .args .out)) (numbers .ensures) (first .pre) (write .ensures) .0, write .kept .1 .0, simp length-append at (ap length (written-is (numbers .ensures))));
     }
 
 mul-write-at : tie.Need-mul-write-at Inv-loop μ-loop
@@ -45,7 +46,7 @@ array-read-write-at : tie.Need-array-read-write-at Inv-loop μ-loop
 array-read-write-at c = within (c .before .loop .inv .left-is) (c .loop-test .taken) (schema-size _)
 
 write-at-requires-2 : tie.Need-write-at-requires-2 Inv-loop μ-loop
-write-at-requires-2 c κs = room-next (c .before .before .loop .inv) (c .before .loop-test .taken) (schema-size _)
+write-at-requires-2 c κs = search needs
 
 add-i : tie.Need-add-i Inv-loop μ-loop
 add-i c =
@@ -59,7 +60,7 @@ loop-again : tie.Need-loop-again Inv-loop μ-loop
 loop-again c =
     let x = c .before .before .before .before in
     let write = c .before .before .write-at2 in
-    put-number (x .before .loop .inv) (x .loop-test .taken) (schema-size _) (write .ensures .0) (write .ensures .1)
+    put-number (x .before .loop .inv) (x .loop-test .taken) (schema-size _) (write .ensures)
 
 same-length : tie.Need-same-length Inv-loop μ-loop
 same-length c = c .before .loop .inv .storing .size ∙ c .before .before .before .before .write-at .kept .1 .0
@@ -68,9 +69,10 @@ returns : tie.Need-returns Inv-loop μ-loop
 returns c =
     let write = c .before .before .before .before .write-at in
     let numbers = c .before .before .before .before .before .before .before .before .numbers-of in
-    put-written (now (c .before .before .before .before .before .before .before .before .before .before .args .out)) (numbers .ensures)
-    (c .before .before .before .before .before .before .before .before .before .before .pre) (write .ensures .0) (write .ensures .1)
-    (put-done (c .before .loop .inv) (c .loop-test .left))
+    let first = c .before .before .before .before .before .before .before .before .before .before in
+    let out = now (first .args .out) in
+    let kind = put-kind out (numbers .ensures) (first .pre) (write .ensures) in
+    put-written out (numbers .ensures) (first .pre) (kind .0) (kind .1) (put-done (c .before .loop .inv) (c .loop-test .left))
 
 pub store-spec : {M : Type 1} → statement M
 store-spec =

@@ -1,83 +1,59 @@
--- `formats::row::facts` meets its contract.
+-- `formats::row::facts` meets its contract: each fact is read from its place.
 -- Assumes nothing.
-use native.Mathlib.Omega.{arith}
-use Rattle.formats.specs.Row.{factsOf}
-use mathlib.Core.Path.{refl}
 use borrow.Author.Needs.{needs}
+use Rattle.formats.specs.Row.{factsOf}
 use Rattle.formats.proofs.facts.Laws.{facts-same}
 use Rattle.formats.proofs.row.facts.Statement.{statement}
 use Rattle.formats.proofs.row.facts.Tie as tie
 
-shared-slice-read-t3 : tie.Need-shared-slice-read-t3
-shared-slice-read-t3 c = search needs
+byte-requires : tie.Need-byte-requires
+byte-requires c κs = search needs
 
-cast-t4 : tie.Need-cast-t4
-cast-t4 c = omega (arith, c .shared-slice-known2 .given 1)
+cast-t3 : tie.Need-cast-t3
+cast-t3 c = search needs
 
-shared-slice-read-t6 : tie.Need-shared-slice-read-t6
-shared-slice-read-t6 c = search needs
+byte-requires-2 : tie.Need-byte-requires-2
+byte-requires-2 c κs = search needs
+
+cast-t5 : tie.Need-cast-t5
+cast-t5 c = search needs
+
+byte-requires-3 : tie.Need-byte-requires-3
+byte-requires-3 c κs = search needs
 
 cast-t7 : tie.Need-cast-t7
-cast-t7 c = omega (arith, c .shared-slice-known3 .given 2)
+cast-t7 c = search needs
 
-shared-slice-read-t9 : tie.Need-shared-slice-read-t9
-shared-slice-read-t9 c = search needs
+byte-requires-4 : tie.Need-byte-requires-4
+byte-requires-4 c κs = search needs
 
-cast-t10 : tie.Need-cast-t10
-cast-t10 c = omega (arith, c .shared-slice-known4 .given 3)
+cast-t9 : tie.Need-cast-t9
+cast-t9 c = search needs
 
-shared-slice-read-t12 : tie.Need-shared-slice-read-t12
-shared-slice-read-t12 c = search needs
+read-at-requires : tie.Need-read-at-requires
+read-at-requires c κs = search needs
 
-cast-t13 : tie.Need-cast-t13
-cast-t13 c = omega (arith, c .shared-slice-known5 .given 4)
-
-sub-read : tie.Need-sub-read
-sub-read c = search needs
-
-part-read-start : tie.Need-part-read-start
-part-read-start c = search needs
-
-part-read-end : tie.Need-part-read-end
-part-read-end c = search needs
-
-read-requires : tie.Need-read-requires
-read-requires c κs = search needs
-
-sub-read-2 : tie.Need-sub-read-2
-sub-read-2 c = search needs
-
-part-read-start-2 : tie.Need-part-read-start-2
-part-read-start-2 c = search needs
-
-part-read-end-2 : tie.Need-part-read-end-2
-part-read-end-2 c = search needs
-
-read-requires-2 : tie.Need-read-requires-2
-read-requires-2 c κs = search needs
+read-at-requires-2 : tie.Need-read-at-requires-2
+read-at-requires-2 c κs = search needs
 
 returns : tie.Need-returns
 unfolding factsOf
-returns c = facts-same refl refl refl refl (c .before .before .read .ensures) (c .read2 .ensures)
+returns c =
+    let p = c .before .before in
+    facts-same (p .before .before .before .byte .ensures) (p .before .before .byte2 .ensures) (p .before .byte3 .ensures) (p .byte4 .ensures) (c .before .read-at .ensures) (c .read-at2 .ensures)
 
 pub facts-spec : {M : Type 1} → statement M
 facts-spec =
     tie.close
     (tie.spec
-    shared-slice-read-t3
-    cast-t4
-    shared-slice-read-t6
+    byte-requires
+    cast-t3
+    byte-requires-2
+    cast-t5
+    byte-requires-3
     cast-t7
-    shared-slice-read-t9
-    cast-t10
-    shared-slice-read-t12
-    cast-t13
-    sub-read
-    part-read-start
-    part-read-end
-    read-requires
-    sub-read-2
-    part-read-start-2
-    part-read-end-2
-    read-requires-2
+    byte-requires-4
+    cast-t9
+    read-at-requires
+    read-at-requires-2
     returns)

@@ -1,20 +1,22 @@
 -- `formats::row::write_permits` meets its contract.
 -- Assumes nothing.
 use Prim.Native.Nat.{ℕ}
-use mathlib.Core.Path.{ap, _∙_}
+use mathlib.Core.Path.{sym, ap, _∙_}
 use mathlib.Core.List.{[], _∷_}
 use native.Mathlib.Omega.{arith}
 use denote.Ref.{now}
 use Rattle.formats.specs.Part.{put}
 use Rattle.formats.specs.Row.{withPermits}
-use Rattle.formats.proofs.Part.{set-put}
-use Rattle.formats.proofs.field.Laws.{low-byte}
+use Rattle.formats.proofs.Part.{set-put, replaced-whole, replaced-not}
 use borrow.Author.Needs.{needs}
 use Rattle.formats.proofs.row.write_permits.Statement.{statement}
 use Rattle.formats.proofs.row.write_permits.Tie as tie
 
-byte-at-requires : tie.Need-byte-at-requires
-byte-at-requires c κs = search needs
+returns : tie.Need-returns
+returns c = sym (replaced-not _ _ _ (c .if1 .taken))
+
+low-byte-requires : tie.Need-low-byte-requires
+low-byte-requires c κs = search needs
 
 slice-write-row : tie.Need-slice-write-row
 slice-write-row c = search needs
@@ -22,10 +24,15 @@ slice-write-row c = search needs
 same-length : tie.Need-same-length
 same-length c = search needs
 
-returns : tie.Need-returns
+returns-2 : tie.Need-returns-2
 unfolding withPermits
-returns c = let a = c .before .before .args in
-    set-put (now (a .row)) 4 (c .byte-at .result) (omega arith) ∙ ap (λ (b : ℕ). put (now (a .row)) 4 (b ∷ [])) (low-byte (a .permits) (c .byte-at .ensures))
+returns-2 c =
+    let a = c .before .before .before .args in
+    let row = now (a .row) in
+    set-put row 4 (c .low-byte .result) (omega arith)
+    ∙ ap (λ (b : ℕ). put row 4 (b ∷ [])) (c .low-byte .ensures)
+    ∙ sym (replaced-whole 24 (withPermits row (a .permits)) row (omega arith))
 
 pub write-permits-spec : {M : Type 1} → statement M
-write-permits-spec = tie.close (tie.spec byte-at-requires slice-write-row same-length returns)
+write-permits-spec =
+    tie.close (tie.spec returns low-byte-requires slice-write-row same-length returns-2)

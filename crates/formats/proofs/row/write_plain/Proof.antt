@@ -1,10 +1,12 @@
 -- `formats::row::write_plain` meets its contract: after byte 0 the loop stores zeros one by one.
 -- Assumes nothing.
 use Prim.Native.Nat.{suc, _+_, _-_, _≤_}
-use mathlib.Core.Path.{_≡_, _∙_}
+use mathlib.Core.Path.{_≡_, sym, _∙_}
 use native.Mathlib.Omega.{arith}
 use denote.Ref.{now}
-use lib.ListN.{length-set, replicate}
+use lib.ListN.{length, length-set, replicate}
+use Rattle.formats.specs.Row.{plainRow}
+use Rattle.formats.proofs.Part.{replaced-whole, replaced-not}
 use Rattle.formats.proofs.row.Laws.{plain-stored}
 use Rattle.formats.proofs.Stores.{Storing, start, store, done}
 use Rattle.formats.proofs.row.write_plain.Statement.{statement}
@@ -15,6 +17,9 @@ Inv-loop row₀ state i₀ row i = (i ≤ 24) × Storing (replicate 23 0) row₀
 
 abbrev μ-loop : tie.MeasureT-loop
 μ-loop row₀ state i₀ row i = 24 - i
+
+returns : tie.Need-returns Inv-loop μ-loop
+returns c = sym (replaced-not _ _ _ (c .if1 .taken))
 
 slice-write-row : tie.Need-slice-write-row Inv-loop μ-loop
 slice-write-row c = omega arith
@@ -40,12 +45,14 @@ loop-again c =
 same-length : tie.Need-same-length Inv-loop μ-loop
 same-length c = simp length-set at (c .before .loop .inv .1 .size)
 
-returns : tie.Need-returns Inv-loop μ-loop
-returns c =
+returns-2 : tie.Need-returns-2 Inv-loop μ-loop
+returns-2 c =
     let l = c .before .loop in
     let m : 24 - l .i ≡ 0 = omega arith in
-    let a = c .before .before in
-    done (rw m at (l .inv .1)) ∙ plain-stored (a .args .state) (now (a .args .row)) (a .pre)
+    let a = c .before .before .before .args in
+    let row = now (a .row) in
+    let size : length row ≡ 24 = omega arith in
+    done (rw m at (l .inv .1)) ∙ plain-stored (a .state) row size ∙ sym (replaced-whole 24 (plainRow (a .state)) row size)
 
 pub write-plain-spec : {M : Type 1} → statement M
 write-plain-spec =
@@ -53,6 +60,7 @@ write-plain-spec =
     (tie.spec
     Inv-loop
     μ-loop
+    returns
     slice-write-row
     loop-holds
     slice-write-row-2
@@ -60,4 +68,4 @@ write-plain-spec =
     loop-less
     loop-again
     same-length
-    returns)
+    returns-2)

@@ -1,11 +1,22 @@
 -- `formats::rule::wipe` meets its contract: bytes 16 to 31 after the wipe of what all halves have.
 -- Assumes nothing.
+use Prim.Native.Nat.{ℕ}
+use mathlib.Core.Path.{sym, ap, _∙_}
+use mathlib.Core.List.{List, _++_}
 use native.Mathlib.Omega.{arith}
 use borrow.Author.Needs.{needs}
+use Rattle.formats.specs.Part.{put}
+use Rattle.formats.specs.Field.{bytesOf}
+use Rattle.formats.specs.Half.{wiped}
 use Rattle.formats.specs.Rule.{wipedRule}
+use Rattle.formats.proofs.Part.{replaced-whole, replaced-not}
 use Rattle.formats.proofs.Writes.{wrote-start, wrote-field}
+use Rattle.formats.proofs.half.Laws.{changed-half}
 use Rattle.formats.proofs.rule.wipe.Statement.{statement}
 use Rattle.formats.proofs.rule.wipe.Tie as tie
+
+returns : tie.Need-returns
+returns c = sym (replaced-not _ _ _ (c .if1 .taken))
 
 wipe-requires : tie.Need-wipe-requires
 wipe-requires c κs = search needs
@@ -37,18 +48,23 @@ write-requires-2 c κs = search needs
 same-length : tie.Need-same-length
 same-length c = search needs
 
-returns : tie.Need-returns
+returns-2 : tie.Need-returns-2
 unfolding wipedRule
-returns c =
+returns-2 c =
     let first = c .before .before .before .before .before .before .before .before .before .before in
-    let fillers = first .before .before .before .args .fillers in
+    let a = first .before .before .before .before .args in
+    let rule = a .rule .now in
+    let fillers = a .fillers in
     let third = wrote-field 8 (fillers .f3) (wrote-start 16 (first .wipe .last .0) (omega arith)) (omega arith) (c .before .before .before .before .before .before .write .ensures) in
-    rw (← first .wipe .ensures) (wrote-field 8 (fillers .f4) third (omega arith) (c .before .before .write2 .ensures) .is)
+    wrote-field 8 (fillers .f4) third (omega arith) (c .before .before .write2 .ensures) .is
+    ∙ ap (λ (w : List ℕ). put w 16 (bytesOf 8 (fillers .f3) ++ bytesOf 8 (fillers .f4))) (first .wipe .ensures ∙ changed-half (wiped rule (fillers .f2)) rule (omega arith))
+    ∙ sym (replaced-whole 32 (wipedRule rule fillers) rule (omega arith))
 
 pub wipe-spec : {M : Type 1} → statement M
 wipe-spec =
     tie.close
     (tie.spec
+    returns
     wipe-requires
     sub-write
     part-write-start
@@ -59,4 +75,4 @@ wipe-spec =
     part-write-end-2
     write-requires-2
     same-length
-    returns)
+    returns-2)
