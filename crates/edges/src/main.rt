@@ -36,11 +36,11 @@
 // bytes EE (half-write: FF). Entry numbers are taken modulo 1,000.
 mod cards;
 mod halves;
+mod heads;
 mod lines;
 mod numbers;
 mod print;
 mod requests;
-mod tables;
 
 ghost use mathlib.Core.Path.{_≡_};
 ghost use Prim.Native.Nat.{_≤_};
@@ -108,15 +108,15 @@ fn answer(line: &[u8], s: &[u8]) {
         11 => halves::rule_read(s),
         12 => halves::rule_wipe(line),
         13 => halves::entry_kind(s, line),
-        14 => tables::check(tables::LEDGER, line),
-        15 => tables::check(tables::TITLES, line),
-        16 => tables::check(tables::RULES, line),
-        17 => tables::ledger_fields(s),
-        18 => tables::rules_fields(s),
-        19 => tables::state(s),
-        20 => tables::write(tables::HERE, line),
-        21 => tables::write(tables::PLAIN, line),
-        22 => tables::write(tables::PERMITS, line),
+        14 => heads::check(heads::LEDGER, line),
+        15 => heads::check(heads::TITLES, line),
+        16 => heads::check(heads::RULES, line),
+        17 => heads::ledger_fields(s),
+        18 => heads::rules_fields(s),
+        19 => heads::state(s),
+        20 => heads::write(heads::HERE, line),
+        21 => heads::write(heads::PLAIN, line),
+        22 => heads::write(heads::PERMITS, line),
         23 => cards::format_ledger(line),
         24 => cards::format_card(line),
         25 => cards::copies(line),

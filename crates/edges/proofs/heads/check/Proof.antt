@@ -1,10 +1,10 @@
--- `edges::tables::check` is safe and ends. The part has `size` bytes.
+-- `edges::heads::check` is safe and ends. The part has `size` bytes.
 -- Assumes nothing.
 use lib.ListN.{length-take}
 use native.Mathlib.Omega.{arith}
 use borrow.Author.Needs.{needs}
-use Rattle.edges.proofs.tables.check.Statement.{statement}
-use Rattle.edges.proofs.tables.check.Tie as tie
+use Rattle.edges.proofs.heads.check.Statement.{statement}
+use Rattle.edges.proofs.heads.check.Tie as tie
 
 slice-aggregate-bytes : tie.Need-slice-aggregate-bytes
 slice-aggregate-bytes c = search needs
