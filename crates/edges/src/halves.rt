@@ -1,6 +1,4 @@
 // The title half and the rule half of an entry, and what they are together.
-ghost use Prim.Native.Nat.{_≤_};
-ghost use lib.ListN.{length};
 use crate::lines;
 use crate::print;
 use crate::requests;
@@ -19,9 +17,7 @@ pub fn title_write(line: &[u8]) {
 }
 
 // What both halves have in common.
-fn fields(half: &[u8])
-    requires { ⌜ 16 ≤ length (now half) ⌝ }
-{
+fn fields(half: &[u8]) {
     print::list(
         b"key flag content usable",
         &[
@@ -48,7 +44,7 @@ pub fn title_wipe(line: &[u8]) {
         print::unknown();
         return;
     }
-    half::wipe(&mut half, lines::number(line, 2));
+    title::wipe(&mut half, lines::number(line, 2));
     print::bytes(b"bytes", &half);
 }
 

@@ -22,7 +22,7 @@ slice-aggregate-read : tie.Need-slice-aggregate-read
 slice-aggregate-read c = simp length-take (omega arith)
 
 read-requires : tie.Need-read-requires
-read-requires c κs = simp length-take (omega arith)
+read-requires c κs = search needs
 
 returns-2 : tie.Need-returns-2
 returns-2 c = search needs
