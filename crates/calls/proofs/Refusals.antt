@@ -66,6 +66,28 @@ unfolding first
 answers n true rest e h = absurd (h e)
 answers n false rest e h = e
 
+-- the last check's answer is the call's
+pub answers-last : (n : ℕ) (b : Bool) {w : ℕ} → w ≡ answer b n → w ≡ first (n unless b ∷ [])
+unfolding first
+answers-last n true e = e
+answers-last n false e = e
+
+-- CONDITIONS IN STAGES
+
+-- a stage that refuses gives the answer
+pub first-stage : (cs ds : List Condition) {n : ℕ} → n ≡ first cs → n ≢ 0 → n ≡ first (cs ++ ds)
+unfolding first
+first-stage [] ds e some = absurd (some e)
+first-stage ((m when true) ∷ cs) ds e some = e
+first-stage ((m when false) ∷ cs) ds e some = first-stage cs ds e some
+
+-- one that does not leaves it to the next
+pub next-stage : (cs ds : List Condition) {n : ℕ} → refusing cs ≡ true → first cs ≡ 0 → n ≡ first ds → n ≡ first (cs ++ ds)
+unfolding first
+next-stage [] ds r e q = q
+next-stage ((m when true) ∷ cs) ds r e q = absurd (other-than-0 m cs r .0 e)
+next-stage ((m when false) ∷ cs) ds r e q = next-stage cs ds (other-than-0 m cs r .1) e q
+
 -- what an answer makes of a buffer: refused, it is the old one, and done, the new one
 module _ {n answer : ℕ} (made old : List ℕ) (e : n ≡ answer) where
   pub kept : (n ≡ 0 → ⊥) → old ≡ cond (eqb answer 0) made old

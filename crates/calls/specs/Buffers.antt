@@ -20,6 +20,10 @@ pub record Buffers : Type 0 where
   pub titles : List ℕ
   pub rules : List ℕ
 
+-- the three of them, as a call is lent them
+abbrev pub lent : List ℕ → List ℕ → List ℕ → Buffers
+lent ledger titles rules = record { ledger = ledger; titles = titles; rules = rules }
+
 -- "Row c (1 to R) starts at 24 × c"
 abbrev pub rowAt : List ℕ → ℕ → List ℕ
 rowAt ledger c = part ledger (24 * c) 24

@@ -1,6 +1,9 @@
 // Counts of which 15 means unlimited: permits and move rights.
 ghost use mathlib.Core.Path.{_≡_};
 ghost use Rattle.calls.specs.Count.{oneLess, oneMore};
+ghost use Rattle.calls.specs.Conditions.{mayNotMove};
+ghost use Rattle.calls.specs.Effect.{afterMove};
+use formats::facts::Facts;
 
 pub const UNLIMITED: u64 = 15;
 
@@ -25,4 +28,28 @@ pub fn one_more(n: u64) -> u64
         return n;
     }
     n + 1
+}
+
+// The facts of a title after a move: one move right less.
+pub fn after_move(facts: Facts) -> Facts
+    ensures { λ r. ⌜ r ≡ afterMove facts ⌝ }
+{
+    Facts {
+        cci: facts.cci,
+        trigger: facts.trigger,
+        rights: one_less(facts.rights),
+        permits: facts.permits,
+        title_key: facts.title_key,
+        sti_key: facts.sti_key,
+    }
+}
+
+// Whether a title's facts forbid a move: its trigger is 1, or no move right is left.
+pub fn may_not_move(facts: Facts) -> bool
+    ensures { λ r. ⌜ r ≡ mayNotMove facts ⌝ }
+{
+    if facts.trigger == 1 {
+        return true;
+    }
+    facts.rights == 0
 }

@@ -28,7 +28,8 @@ pub const AWAY: u8 = 2;
 
 pub const GONE: u8 = 3;
 
-fn in_range(facts: Facts) -> bool
+// Whether CCI, trigger, rights and permits are in their ranges.
+pub fn in_range(facts: Facts) -> bool
     ensures { λ r. ⌜ r ≡ inRange facts ⌝ }
 {
     if 3 < facts.cci {

@@ -3,13 +3,14 @@
 use Prim.Native.Nat.{ℕ, suc, _+_, _-_, _≤_, _<_}
 use mathlib.Core.Path.{_≡_, refl, sym, ap, _∙_}
 use mathlib.Core.List.{List}
-use mathlib.Core.Bool.{Bool, true, false, _&&_}
+use mathlib.Core.Bool.{Bool, true, false, not, _&&_}
 use native.Mathlib.Omega.{arith}
 use lib.Dec.{eqb}
 use borrow.Author.Tests.{ne-eqb, eq-eqb}
 use Rattle.formats.specs.Half.{idOf}
 use Rattle.formats.specs.Entry.{kindOf}
 use Rattle.calls.specs.Buffers.{isCopy, copyOf, one, total}
+use Rattle.calls.proofs.History.Totals.{total-at}
 
 -- n of the entries before j pass
 pub record Counted (p : ℕ → Bool) (j n : ℕ) : Type 0 where
@@ -49,6 +50,17 @@ module _ {p : ℕ → Bool} {j n : ℕ} (r : Counted p j n) where
       let to = r .to in
       let x : j - 1 ≡ 999 = omega arith in
       r .is ∙ ap (λ (k : ℕ). total k (λ i. one (p i))) x
+
+  -- entry j passes, so the count is not 0
+  pub found : j < 1000 → true ≡ p j → true ≡ not (eqb (total 999 (λ i. one (p i))) 0)
+  found h e =
+      let here : one (p j) ≤ total 999 (λ i. one (p i)) = total-at 999 (λ i. one (p i)) j (record { from = r .from; to = omega arith }) in
+      let some : one (p j) ≡ 1 = ap one (sym e) in
+      sym (ap not (ne-eqb (total 999 (λ i. one (p i))) 0 (λ z. omega arith)))
+
+-- none was counted up to the last, so the count is 0
+pub none-found : {p : ℕ → Bool} {j : ℕ} → Counted p j 0 → 1000 ≤ j → false ≡ not (eqb (total 999 (λ i. one (p i))) 0)
+none-found {p} r h = sym (ap not (eq-eqb (total 999 (λ i. one (p i))) 0 (sym (done r h))))
 
 -- an entry with another content ID is no copy of c
 pub other-title : (c : ℕ) (t r : List ℕ) → (idOf t ≡ c → ⊥) → false ≡ copyOf c t r

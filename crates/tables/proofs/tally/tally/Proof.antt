@@ -2,7 +2,6 @@
 -- Assumes nothing.
 use native.Mathlib.Omega.{arith}
 use borrow.Author.Needs.{needs}
-use Rattle.formats.proofs.head.Laws.{titles-length, rules-length}
 use Rattle.calls.proofs.Passed.{numbered-within, within-numbered}
 use Rattle.tables.proofs.tally.Laws.{titles-passed, rules-passed, content-refused, titles-refused, rules-refused, tallied}
 use Rattle.tables.proofs.tally.tally.Statement.{statement}
@@ -37,9 +36,7 @@ returns-4 c =
     (c .before .check-rules .ensures) (c .if4 .taken)
 
 count-requires : tie.Need-count-requires
-count-requires c κs =
-    let x = c .before .before in
-    (titles-length _ (titles-passed _ (x .before .check-titles .ensures) (x .if3 .left)), rules-length _ (rules-passed _ (c .before .check-rules .ensures) (c .if4 .left)))
+count-requires c κs = search needs
 
 returns-5 : tie.Need-returns-5
 returns-5 c =

@@ -1,8 +1,8 @@
--- `tables::copies::is_copy` meets its contract: a case for each kind of entry.
+-- `tables::card::is_full` meets its contract: a case for each kind of entry.
 -- Assumes nothing.
 use borrow.Author.Needs.{needs}
-use Rattle.tables.proofs.copies.is_copy.Statement.{statement}
-use Rattle.tables.proofs.copies.is_copy.Tie as tie
+use Rattle.tables.proofs.card.is_full.Statement.{statement}
+use Rattle.tables.proofs.card.is_full.Tie as tie
 
 enum-told : tie.Need-enum-told
 enum-told c = search needs
@@ -28,7 +28,7 @@ returns-3 c = search needs
 returns-4 : tie.Need-returns-4
 returns-4 c = search needs
 
-pub is-copy-spec : {M : Type 1} → statement M
-is-copy-spec =
+pub is-full-spec : {M : Type 1} → statement M
+is-full-spec =
     tie.close
     (tie.spec enum-told enum-told-2 enum-told-3 enum-told-4 returns returns-2 returns-3 returns-4)

@@ -1,0 +1,65 @@
+-- What a call promises, from the refusal that it found and the effect that it had.
+-- Assumes nothing.
+use Prim.Native.Nat.{ℕ, _+_, _*_, _≤_}
+use mathlib.Core.Path.{_≡_, refl, sym, ap, _∙_}
+use mathlib.Core.Logic.{_≢_}
+use mathlib.Core.Bool.{true, true≢false}
+use lib.ListN.{length}
+use borrow.Author.Tests.{eq-eqb, ne-eqb}
+use Rattle.formats.specs.declared.facts.ContentId.{ContentId}
+use Rattle.formats.specs.declared.facts.EntryNumber.{EntryNumber}
+use Rattle.formats.specs.declared.facts.Facts.{Facts}
+use Rattle.formats.specs.declared.facts.Fillers.{Fillers}
+use Rattle.formats.specs.declared.request.Request.{Request}
+use Rattle.formats.specs.declared.request.Request.the-variants.{Record, MoveIn, Delete}
+use Rattle.calls.specs.Buffers.{Buffers, kindAt, contentAt, isFull}
+use Rattle.calls.specs.Conditions.{conditions}
+use Rattle.calls.specs.Effect.{effect}
+use Rattle.calls.specs.Perform.{refusal, perform}
+use Rattle.calls.proofs.Passed.{Passed, passed, OnCard, on-card, away-row, Deletes, a-copy, a-holder, deletes}
+use Rattle.calls.proofs.Views.{row-inside, entry-inside}
+use Rattle.music_counter.specs.Answer.{Answers}
+
+module _ (k : Request) (b : Buffers) {w : ℕ} (e : w ≡ refusal k b) where
+  -- refused, nothing has changed
+  pub refused : w ≢ 0 → Answers k b w b
+  unfolding perform
+  refused some = simp (ne-eqb (refusal k b) 0 (λ z. some (e ∙ z)), e)
+
+  -- done, its effect is there
+  pub done : {after : Buffers} → w ≡ 0 → after ≡ effect k b → Answers k b 0 after
+  unfolding perform
+  done {after} zero same = simp (eq-eqb (refusal k b) 0 (sym e ∙ zero), sym e ∙ zero, same)
+
+  -- and none of its conditions holds
+  pub accepted : w ≡ 0 → Passed k b
+  unfolding perform
+  accepted zero = passed k b (sym e ∙ zero)
+
+-- THE PLACES of an accepted call are inside its tables
+
+module _ (b : Buffers) (j : ℕ) (on : OnCard b j) where
+  pub titles-room : 16 * j + 16 ≤ length (b .titles)
+  titles-room = entry-inside 16 (b .titles) (on .titles-long) j (on .entry)
+
+  pub rules-room : 32 * j + 32 ≤ length (b .rules)
+  rules-room = entry-inside 32 (b .rules) (on .rules-long) j (on .entry)
+
+-- the row of a full entry that is deleted
+pub deleted-row : (b : Buffers) (j : EntryNumber) (f : Fillers) → Passed (Delete j f) b → isFull (kindAt b (j .0)) ≡ true → 24 * contentAt b (j .0) + 24 ≤ length (b .ledger)
+deleted-row b j f t full = by (deletes b (j .0) (t 10 .0) (t 11 .0))
+  where
+    by : Deletes b (j .0) → 24 * contentAt b (j .0) + 24 ≤ length (b .ledger)
+    by (a-copy e) = absurd (true≢false (sym full ∙ ap isFull e))
+    by (a-holder e away) = row-inside (b .ledger) (contentAt b (j .0)) (away-row b (contentAt b (j .0)) (on-card (Delete j f) b t .head) away)
+
+-- WHAT THE REFUSAL DOES NOT DEPEND ON
+
+-- record and move in do not test the hash
+pub record-unhashed : (c : ContentId) (j : EntryNumber) (f : Facts) (h : ℕ) (b : Buffers) → refusal (Record c j f 0) b ≡ refusal (Record c j f h) b
+unfolding refusal conditions
+record-unhashed c j f h b = refl
+
+pub move-in-unhashed : (c : ContentId) (j : EntryNumber) (h : ℕ) (b : Buffers) → refusal (MoveIn c j 0) b ≡ refusal (MoveIn c j h) b
+unfolding refusal conditions
+move-in-unhashed c j h b = refl

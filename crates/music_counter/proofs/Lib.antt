@@ -1,0 +1,4 @@
+pub mod Places
+pub mod Effects
+pub mod Stages
+pub mod Answers

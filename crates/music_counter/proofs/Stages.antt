@@ -1,0 +1,79 @@
+-- Refusals in stages, as the calls test them.
+-- Assumes nothing.
+use Prim.Native.Nat.{ℕ}
+use mathlib.Core.Path.{_≡_, refl, sym, ap, ap₂, _∙_}
+use mathlib.Core.Logic.{_≢_}
+use mathlib.Core.List.{List, _++_}
+use mathlib.Core.Bool.{Bool, true, false, not, _&&_, _||_}
+use lib.Dec.{eqb}
+use borrow.Author.Tests.{eq-eqb, ne-eqb}
+use Rattle.formats.specs.Half.{idOf}
+use Rattle.formats.specs.Entry.{kindOf}
+use Rattle.formats.specs.declared.entry.EntryKind.{EntryKind}
+use Rattle.formats.specs.declared.row.RowState.{RowState}
+use Rattle.calls.specs.Buffers.{Buffers, stateIn}
+use Rattle.calls.specs.Refusal.{Condition, first}
+use Rattle.calls.specs.Conditions.{allHeadConditions, leavesKey}
+use Rattle.calls.proofs.Refusals.{first-stage, next-stage}
+
+-- a test in code that says what a definition's test says; `!` of it in code likewise
+pub told : {r b t : Bool} → r ≡ b → r ≡ t → b ≡ t
+told e q = sym e ∙ q
+
+pub denied : {r b t : Bool} → r ≡ b → not r ≡ t → not b ≡ t
+denied e q = ap not (sym e) ∙ q
+
+-- the heads refuse; or they do not, and what comes after them decides
+module _ (b : Buffers) (rest : List Condition) {w : ℕ} (e : w ≡ first (allHeadConditions b)) where
+  pub by-heads : w ≢ 0 → w ≡ first (allHeadConditions b ++ rest)
+  by-heads some = first-stage (allHeadConditions b) rest e some
+
+  pub past-heads : {n : ℕ} → w ≡ 0 → n ≡ first rest → n ≡ first (allHeadConditions b ++ rest)
+  past-heads zero q = next-stage (allHeadConditions b) rest refl (sym e ∙ zero) q
+
+-- WHAT CODE HAS SEEN of the buffers is what the conditions speak of
+
+-- the kind of an entry, by its halves
+pub kind-seen : {k : EntryKind} {t r t′ r′ : List ℕ} → k ≡ kindOf t r → t ≡ t′ → r ≡ r′ → k ≡ kindOf t′ r′
+kind-seen e p q = e ∙ ap₂ kindOf p q
+
+-- the row of an entry's title
+pub row-seen : (l : List ℕ) {s : RowState} {c : ℕ} {t t′ : List ℕ} → s ≡ stateIn l c → c ≡ idOf t → t ≡ t′ → s ≡ stateIn l (idOf t′)
+row-seen l e p q = e ∙ ap (stateIn l) (p ∙ ap idOf q)
+
+-- a filler that leaves a half's key
+pub leaves-seen : (f : ℕ) {x : Bool} {h h′ : List ℕ} → x ≡ leavesKey f h → h ≡ h′ → x ≡ leavesKey f h′
+leaves-seen f e p = e ∙ ap (leavesKey f) p
+
+-- a number that is tested for a value
+module _ {x y n : ℕ} (e : x ≡ y) where
+  pub equal-to : x ≡ n → eqb y n ≡ true
+  equal-to q = eq-eqb y n (sym e ∙ q)
+
+  pub other-than : (x ≡ n → ⊥) → eqb y n ≡ false
+  other-than h = ne-eqb y n (λ q. h (e ∙ q))
+
+-- the hash that was given, against the stored one
+module _ {h x y : ℕ} (e : x ≡ y) where
+  pub hash-other : (h ≡ x → ⊥) → not (eqb h y) ≡ true
+  hash-other other = ap not (ne-eqb h y (λ q. other (q ∙ sym e)))
+
+  pub hash-same : h ≡ x → not (eqb h y) ≡ false
+  hash-same q = ap not (eq-eqb h y (q ∙ e))
+
+-- joined tests, the first of which decides, or leaves it to the second
+pub or-first : {a : Bool} (b : Bool) → a ≡ true → (a || b) ≡ true
+or-first b p = ap (λ (x : Bool). x || b) p
+
+pub or-next : {a b t : Bool} → a ≡ false → b ≡ t → (a || b) ≡ t
+or-next {b = b} p q = ap (λ (x : Bool). x || b) p ∙ q
+
+pub or-second : (a : Bool) {b : Bool} → b ≡ true → (a || b) ≡ true
+or-second true q = refl
+or-second false q = q
+
+pub and-first : {a : Bool} (b : Bool) → a ≡ false → (a && b) ≡ false
+and-first b p = ap (λ (x : Bool). x && b) p
+
+pub and-next : {a b t : Bool} → a ≡ true → b ≡ t → (a && b) ≡ t
+and-next {b = b} p q = ap (λ (x : Bool). x && b) p ∙ q

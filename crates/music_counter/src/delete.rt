@@ -1,0 +1,104 @@
+// 7 delete: a copy is wiped, whatever its row; a full entry is wiped, and its row, away until then, is gone.
+ghost use mathlib.Core.Path.{_≡_};
+ghost use mathlib.Core.Bool.{true};
+ghost use Prim.Native.Nat.{_+_, _*_, _≤_};
+ghost use lib.ListN.{length};
+ghost use Rattle.formats.specs.declared.request.Request.the-variants.{Delete};
+ghost use Rattle.formats.specs.Half.{idOf};
+ghost use Rattle.formats.specs.Entry.{kindOf};
+ghost use Rattle.calls.specs.Buffers.{lent, titleAt, ruleAt, isFull};
+ghost use Rattle.calls.specs.Refusal.{first};
+ghost use Rattle.calls.specs.Conditions.{stateConditions};
+ghost use Rattle.calls.specs.Effect.{effect};
+ghost use Rattle.calls.specs.Perform.{refusal};
+ghost use Rattle.music_counter.specs.Answer.{Answers};
+use calls::argument;
+use formats::entry;
+use formats::facts::EntryNumber;
+use formats::facts::Fillers;
+use formats::half;
+use formats::refusal;
+use formats::row;
+use tables::card;
+use tables::heads;
+use tables::ledger;
+
+// Of a copy the row is not looked at.
+fn state(ledger: &[u8], titles: &[u8], rules: &[u8], entry: EntryNumber, fillers: Fillers) -> u64
+    ensures { λ r. ⌜ r ≡ first (stateConditions (Delete entry fillers) (lent (now (ledger .entry)) (now (titles .entry)) (now (rules .entry)))) ⌝ }
+{
+    let title = card::title_half(titles, entry);
+    let rule = card::rule_half(rules, entry);
+    let kind = entry::kind(title, rule);
+    if !card::is_full(kind) {
+        if !card::is_copy(kind) {
+            return refusal::KIND_OF_ENTRY;
+        }
+        if card::leaves_key(fillers.f1, title) {
+            return refusal::FILLER;
+        }
+        return 0;
+    }
+    if !ledger::is_away(ledger::state(ledger, half::content_id(title))) {
+        return refusal::STATE_OF_ROW;
+    }
+    if card::leaves_key(fillers.f1, title) {
+        return refusal::FILLER;
+    }
+    if card::leaves_key(fillers.f2, rule) {
+        return refusal::FILLER;
+    }
+    0
+}
+
+fn refusal(ledger: &[u8], titles: &[u8], rules: &[u8], entry: EntryNumber, fillers: Fillers) -> u64
+    ensures { λ r. ⌜ r ≡ refusal (Delete entry fillers) (lent (now (ledger .entry)) (now (titles .entry)) (now (rules .entry))) ⌝ }
+{
+    if !argument::is_numbered(entry.0) {
+        return refusal::ENTRY_NUMBER;
+    }
+    let w = heads::check(ledger, titles, rules);
+    if w != 0 {
+        return w;
+    }
+    state(ledger, titles, rules, entry, fillers)
+}
+
+fn apply(
+    ledger: &mut [u8],
+    titles: &mut [u8],
+    rules: &mut [u8],
+    entry: EntryNumber,
+    fillers: Fillers,
+)
+    requires { ⌜ (isFull (kindOf (titleAt (now titles) (entry .0)) (ruleAt (now rules) (entry .0))) ≡ true → 24 * idOf (titleAt (now titles) (entry .0)) + 24 ≤ length (now ledger)) ⌝ }
+    requires { ⌜ (16 * entry .0 + 16 ≤ length (now titles)) × (32 * entry .0 + 32 ≤ length (now rules)) ⌝ }
+    ensures { λ _. ⌜ lent (now (ledger .exit)) (now (titles .exit)) (now (rules .exit)) ≡ effect (Delete entry fillers) (lent (now (ledger .entry)) (now (titles .entry)) (now (rules .entry))) ⌝ }
+{
+    let title = card::title_half(&*titles, entry);
+    let content = half::content_id(title);
+    let kind = entry::kind(title, card::rule_half(&*rules, entry));
+    crate::wipe_title(&mut *titles, entry, fillers.f1);
+    if card::is_full(kind) {
+        crate::set_plain(&mut *ledger, content, row::GONE);
+        crate::wipe_rule(&mut *rules, entry, fillers);
+    }
+}
+
+// Answers 0, or 5, 7, 8, 9, 10, 11 or 16 with nothing changed.
+pub fn delete(
+    ledger: &mut [u8],
+    titles: &mut [u8],
+    rules: &mut [u8],
+    entry: EntryNumber,
+    fillers: Fillers,
+) -> u64
+    ensures { λ r. ⌜ Answers (Delete entry fillers) (lent (now (ledger .entry)) (now (titles .entry)) (now (rules .entry))) r (lent (now (ledger .exit)) (now (titles .exit)) (now (rules .exit))) ⌝ }
+{
+    let w = refusal(&*ledger, &*titles, &*rules, entry, fillers);
+    if w != 0 {
+        return w;
+    }
+    apply(&mut *ledger, &mut *titles, &mut *rules, entry, fillers);
+    0
+}

@@ -1,0 +1,71 @@
+-- `tables::heads::check` meets its contract.
+-- Assumes nothing.
+use Prim.Native.Nat.{ℕ}
+use mathlib.Core.Path.{_≡_, sym, ap, _∙_}
+use mathlib.Core.Bool.{true, _&&_}
+use native.Mathlib.Omega.{arith}
+use lib.Dec.{eqb}
+use borrow.Author.Needs.{needs}
+use Rattle.formats.specs.Head.{ledgerPasses, ledgerApplication, ledgerAnswer, titlesPass, titlesAnswer, rulesPass, rulesApplication, rulesAnswerFor}
+use Rattle.formats.proofs.Tests.{passed}
+use Rattle.calls.specs.Buffers.{Buffers}
+use Rattle.calls.specs.Refusal.{first}
+use Rattle.calls.specs.Conditions.{allHeadConditions}
+use Rattle.calls.proofs.Refusals.{holds, answers, answers-last}
+use Rattle.tables.proofs.heads.check.Statement.{statement}
+use Rattle.tables.proofs.heads.check.Tie as tie
+
+module _ (b : Buffers) where
+  ledger-wrong : {w : ℕ} → w ≡ ledgerAnswer (b .ledger) → (w ≡ 0 → ⊥) → w ≡ first (allHeadConditions b)
+  ledger-wrong e some = answers 7 (ledgerPasses (b .ledger)) _ e some
+
+  module _ {v : ℕ} (e : v ≡ ledgerAnswer (b .ledger)) (z : v ≡ 0) where
+    ledger-right : ledgerPasses (b .ledger) ≡ true
+    ledger-right = passed (ledgerPasses (b .ledger)) 7 (omega arith) (sym e ∙ z)
+
+    titles-wrong : {w : ℕ} → w ≡ titlesAnswer (b .titles) → (w ≡ 0 → ⊥) → w ≡ first (allHeadConditions b)
+    titles-wrong t some = holds 7 (ledgerPasses (b .ledger)) _ ledger-right (answers 8 (titlesPass (b .titles)) _ t some)
+
+    rules-last : {w m x : ℕ} → w ≡ titlesAnswer (b .titles) → w ≡ 0 → m ≡ ledgerApplication (b .ledger) → x ≡ rulesAnswerFor m (b .rules) → x ≡ first (allHeadConditions b)
+    rules-last t y m r =
+        holds 7 (ledgerPasses (b .ledger)) _ ledger-right
+        (holds 8 (titlesPass (b .titles)) _ (passed (titlesPass (b .titles)) 8 (omega arith) (sym t ∙ y)) (answers-last 9 (rulesPass (b .rules) && eqb (rulesApplication (b .rules)) (ledgerApplication (b .ledger))) (r ∙ ap (λ (n : ℕ). rulesAnswerFor n (b .rules)) m)))
+
+check-ledger-requires : tie.Need-check-ledger-requires
+check-ledger-requires c κs = search needs
+
+returns : tie.Need-returns
+returns c = ledger-wrong _ (c .before .check-ledger .ensures) (c .if1 .taken)
+
+check-titles-requires : tie.Need-check-titles-requires
+check-titles-requires c κs = search needs
+
+returns-2 : tie.Need-returns-2
+returns-2 c =
+    let x = c .before .before in
+    titles-wrong _ (x .before .check-ledger .ensures) (x .if1 .left) (c .before .check-titles .ensures) (c .if2 .taken)
+
+ledger-application-requires : tie.Need-ledger-application-requires
+ledger-application-requires c κs = search needs
+
+check-rules-for-requires : tie.Need-check-rules-for-requires
+check-rules-for-requires c κs = search needs
+
+returns-3 : tie.Need-returns-3
+returns-3 c =
+    let y = c .before .before in
+    let x = y .before .before in
+    rules-last _ (x .before .check-ledger .ensures) (x .if1 .left) (y .before .check-titles .ensures) (y .if2 .left)
+    (c .before .ledger-application .ensures) (c .check-rules-for .ensures)
+
+pub check-spec : {M : Type 1} → statement M
+check-spec =
+    tie.close
+    (tie.spec
+    check-ledger-requires
+    returns
+    check-titles-requires
+    returns-2
+    ledger-application-requires
+    check-rules-for-requires
+    returns-3)
