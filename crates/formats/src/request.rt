@@ -8,7 +8,7 @@ ghost use Rattle.formats.specs.Part.{put};
 ghost use Rattle.formats.specs.Facts.{cciPasses};
 ghost use Rattle.formats.specs.Number.{readAnswer};
 ghost use Rattle.formats.specs.Refusal.{unless};
-ghost use Rattle.formats.specs.Request.{limit, schema, factsFrom, fillersFrom, requestOf, written, limitOf, Fault, readArguments, readRequest, remainderOf, writingRequest, requestWrittenTo};
+ghost use Rattle.formats.specs.Request.{limit, kindOf, schema, factsFrom, fillersFrom, requestOf, written, limitOf, Fault, readArguments, readRequest, remainderOf, writingRequest, requestWrittenTo};
 ghost use Rattle.formats.specs.Packed.{argumentOf, packed, Holds, argumentsAnswer};
 use crate::facts::ContentId;
 use crate::facts::EntryNumber;
@@ -342,6 +342,43 @@ fn read_arguments(s: &[u8], kind: u64) -> Arguments
         refusal: 0,
         values,
         len: used,
+    }
+}
+
+// The number of a request's kind.
+pub fn kind(request: Request) -> u64
+    ensures { λ r. ⌜ r ≡ kindOf request ⌝ }
+{
+    match request {
+        Request::Register {
+            content: _,
+            facts: _,
+        } => 1,
+        Request::Record {
+            content: _,
+            entry: _,
+            facts: _,
+            hash: _,
+        } => 2,
+        Request::CheckOut {
+            content: _,
+            entry: _,
+        } => 3,
+        Request::CheckIn { entry: _, f1: _ } => 4,
+        Request::MoveOut {
+            entry: _,
+            hash: _,
+            fillers: _,
+        } => 5,
+        Request::MoveIn {
+            content: _,
+            entry: _,
+            hash: _,
+        } => 6,
+        Request::Delete {
+            entry: _,
+            fillers: _,
+        } => 7,
     }
 }
 

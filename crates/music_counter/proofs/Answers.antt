@@ -63,3 +63,7 @@ record-unhashed c j f h b = refl
 pub move-in-unhashed : (c : ContentId) (j : EntryNumber) (h : ℕ) (b : Buffers) → refusal (MoveIn c j 0) b ≡ refusal (MoveIn c j h) b
 unfolding refusal conditions
 move-in-unhashed c j h b = refl
+
+-- a request that is one of the calls is answered as that call
+pub for-request : (b : Buffers) {k k′ : Request} {r : ℕ} {after : Buffers} → k ≡ k′ → Answers k′ b r after → Answers k b r after
+for-request b e q = q ∙ ap (λ (k : Request). perform k b) (sym e)

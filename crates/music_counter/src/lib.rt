@@ -26,6 +26,7 @@ pub mod move_in;
 pub mod move_out;
 pub mod record;
 pub mod register;
+pub mod serve;
 
 // A row is here with these facts.
 fn set_here(ledger: &mut [u8], content: ContentId, facts: Facts)

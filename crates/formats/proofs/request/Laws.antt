@@ -24,7 +24,7 @@ use Rattle.formats.specs.declared.request.RequestRead.the-variants.{Read
 use Rattle.formats.proofs.Bytes.{Bytes, bytes-drop}
 use Rattle.formats.proofs.Cells.{cells, of-cells}
 use Rattle.formats.proofs.Tests.{split, passed}
-use Rattle.formats.proofs.number.Laws.{reading-undoes-writing, only-written, read-below, read-within, refusals, read-stays, refused-stays}
+use Rattle.formats.proofs.number.Laws.{reading-undoes-writing, only-written, read-below, read-within, read-positive, refusals, read-stays, refused-stays}
 use Rattle.formats.proofs.request.Cases.{argument-refused, argument-limit, argument-value, kind-refused, kind-limit, kind-value}
 
 -- every value is a 64-bit number
@@ -229,6 +229,7 @@ made {k} vs z e = makes k z vs e
 -- what is known of a request that was read in k bytes of s
 pub record RequestForm (s : List ℕ) (q : Request) (k : ℕ) : Type 0 where
   pub within : k ≤ length s
+  pub positive : 0 < k
   pub passes : limitOf q ≡ 0
   pub form : Bytes s → take k s ≡ written q
   pub below : Bytes s → Below (valuesOf q)
@@ -243,6 +244,7 @@ good-as s v k e z (Values vs n) f =
     let m = made vs z (f .size) in
     record {
       within = omega (arith, f .within, read-within s e, length-drop k s);
+      positive = omega (arith, read-positive s e);
       passes = rw (m .kind-is, m .values-are) (f .limits);
       form = λ b. rw (m .kind-is, m .values-are) (take-add k n s ∙ ap₂ _++_ (only-written s b e) (f .form (bytes-drop k s b)));
       below = λ b. rw (m .values-are) (f .below (bytes-drop k s b));
