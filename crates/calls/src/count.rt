@@ -11,7 +11,7 @@ pub const UNLIMITED: u64 = 15;
 pub fn one_less(n: u64) -> u64
     ensures { λ r. ⌜ r ≡ oneLess n ⌝ }
 {
-    if UNLIMITED <= n {
+    if n >= UNLIMITED {
         return n;
     }
     if n == 0 {

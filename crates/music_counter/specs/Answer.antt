@@ -4,7 +4,7 @@ use mathlib.Core.Path.{_≡_}
 use mathlib.Core.List.{List}
 use Rattle.formats.specs.declared.request.Request.{Request}
 use Rattle.calls.specs.Buffers.{Buffers, lent}
-use Rattle.calls.specs.Perform.{refusal, perform}
+use Rattle.calls.specs.Perform.{perform}
 
 -- the call k, lent the buffers b, has answered r and left `after`: both are what `perform` says
 abbrev pub Answers : Request → Buffers → ℕ → Buffers → Type 0
@@ -13,6 +13,3 @@ Answers k b r after = record { answer = r; buffers = after } ≡ perform k b
 -- "Register is lent the ledger only.": the same whatever the card is
 abbrev pub AnswersByLedger : Request → List ℕ → ℕ → List ℕ → Type 0
 AnswersByLedger k ledger r after = (titles rules : List ℕ) → Answers k (lent ledger titles rules) r (lent after titles rules)
-
-abbrev pub RefusedByLedger : Request → List ℕ → ℕ → Type 0
-RefusedByLedger k ledger r = (titles rules : List ℕ) → r ≡ refusal k (lent ledger titles rules)

@@ -7,62 +7,14 @@ ghost use Rattle.formats.specs.declared.request.Request.the-variants.{Delete};
 ghost use Rattle.formats.specs.Half.{idOf};
 ghost use Rattle.formats.specs.Entry.{kindOf};
 ghost use Rattle.calls.specs.Buffers.{lent, titleAt, ruleAt, isFull};
-ghost use Rattle.calls.specs.Refusal.{first};
-ghost use Rattle.calls.specs.Conditions.{stateConditions};
 ghost use Rattle.calls.specs.Effect.{effect};
-ghost use Rattle.calls.specs.Perform.{refusal};
 ghost use Rattle.music_counter.specs.Answer.{Answers};
-use calls::argument;
 use formats::entry;
 use formats::facts::EntryNumber;
 use formats::facts::Fillers;
 use formats::half;
-use formats::refusal;
 use formats::row;
 use tables::card;
-use tables::heads;
-use tables::ledger;
-
-// Of a copy the row is not looked at.
-fn state(ledger: &[u8], titles: &[u8], rules: &[u8], entry: EntryNumber, fillers: Fillers) -> u64
-    ensures { λ r. ⌜ r ≡ first (stateConditions (Delete entry fillers) (lent (now (ledger .entry)) (now (titles .entry)) (now (rules .entry)))) ⌝ }
-{
-    let title = card::title_half(titles, entry);
-    let rule = card::rule_half(rules, entry);
-    let kind = entry::kind(title, rule);
-    if !card::is_full(kind) {
-        if !card::is_copy(kind) {
-            return refusal::KIND_OF_ENTRY;
-        }
-        if card::leaves_key(fillers.f1, title) {
-            return refusal::FILLER;
-        }
-        return 0;
-    }
-    if !ledger::is_away(ledger::state(ledger, half::content_id(title))) {
-        return refusal::STATE_OF_ROW;
-    }
-    if card::leaves_key(fillers.f1, title) {
-        return refusal::FILLER;
-    }
-    if card::leaves_key(fillers.f2, rule) {
-        return refusal::FILLER;
-    }
-    0
-}
-
-fn refusal(ledger: &[u8], titles: &[u8], rules: &[u8], entry: EntryNumber, fillers: Fillers) -> u64
-    ensures { λ r. ⌜ r ≡ refusal (Delete entry fillers) (lent (now (ledger .entry)) (now (titles .entry)) (now (rules .entry))) ⌝ }
-{
-    if !argument::is_numbered(entry.0) {
-        return refusal::ENTRY_NUMBER;
-    }
-    let w = heads::check(ledger, titles, rules);
-    if w != 0 {
-        return w;
-    }
-    state(ledger, titles, rules, entry, fillers)
-}
 
 fn apply(
     ledger: &mut [u8],
@@ -95,7 +47,7 @@ pub fn delete(
 ) -> u64
     ensures { λ r. ⌜ Answers (Delete entry fillers) (lent (now (ledger .entry)) (now (titles .entry)) (now (rules .entry))) r (lent (now (ledger .exit)) (now (titles .exit)) (now (rules .exit))) ⌝ }
 {
-    let w = refusal(&*ledger, &*titles, &*rules, entry, fillers);
+    let w = refusals::delete::refusal(&*ledger, &*titles, &*rules, entry, fillers);
     if w != 0 {
         return w;
     }

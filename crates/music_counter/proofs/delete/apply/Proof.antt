@@ -4,7 +4,7 @@ use borrow.Author.Needs.{needs}
 use mathlib.Core.Path.{sym, ap, _∙_}
 use Rattle.formats.specs.Half.{idOf}
 use Rattle.calls.specs.Buffers.{isFull}
-use Rattle.music_counter.proofs.Stages.{kind-seen}
+use Rattle.refusals.proofs.Stages.{kind-seen}
 use Rattle.music_counter.proofs.Effects.{deleted, deleted-copy}
 use Rattle.music_counter.proofs.delete.apply.Statement.{statement}
 use Rattle.music_counter.proofs.delete.apply.Tie as tie

@@ -1,0 +1,63 @@
+// The refusals of delete: 5, 7 to 11, and 16.
+ghost use mathlib.Core.Path.{_≡_};
+ghost use Rattle.formats.specs.declared.request.Request.the-variants.{Delete};
+ghost use Rattle.calls.specs.Buffers.{lent};
+ghost use Rattle.calls.specs.Refusal.{first};
+ghost use Rattle.calls.specs.Conditions.{stateConditions};
+ghost use Rattle.calls.specs.Perform.{refusal};
+use calls::argument;
+use formats::entry;
+use formats::facts::EntryNumber;
+use formats::facts::Fillers;
+use formats::half;
+use formats::refusal;
+use tables::card;
+use tables::heads;
+use tables::ledger;
+
+// Of a copy the row is not looked at, and only the title half is to be wiped.
+fn state(ledger: &[u8], titles: &[u8], rules: &[u8], entry: EntryNumber, fillers: Fillers) -> u64
+    ensures { λ r. ⌜ r ≡ first (stateConditions (Delete entry fillers) (lent (now (ledger .entry)) (now (titles .entry)) (now (rules .entry)))) ⌝ }
+{
+    let title = card::title_half(titles, entry);
+    let rule = card::rule_half(rules, entry);
+    let kind = entry::kind(title, rule);
+    if !card::is_full(kind) {
+        if !card::is_copy(kind) {
+            return refusal::KIND_OF_ENTRY;
+        }
+        if card::leaves_key(fillers.f1, title) {
+            return refusal::FILLER;
+        }
+        return 0;
+    }
+    if !ledger::is_away(ledger::state(ledger, half::content_id(title))) {
+        return refusal::STATE_OF_ROW;
+    }
+    if card::leaves_key(fillers.f1, title) {
+        return refusal::FILLER;
+    }
+    if card::leaves_key(fillers.f2, rule) {
+        return refusal::FILLER;
+    }
+    0
+}
+
+pub fn refusal(
+    ledger: &[u8],
+    titles: &[u8],
+    rules: &[u8],
+    entry: EntryNumber,
+    fillers: Fillers,
+) -> u64
+    ensures { λ r. ⌜ r ≡ refusal (Delete entry fillers) (lent (now (ledger .entry)) (now (titles .entry)) (now (rules .entry))) ⌝ }
+{
+    if !argument::is_numbered(entry.0) {
+        return refusal::ENTRY_NUMBER;
+    }
+    let w = heads::check(ledger, titles, rules);
+    if w != 0 {
+        return w;
+    }
+    state(ledger, titles, rules, entry, fillers)
+}

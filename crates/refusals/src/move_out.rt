@@ -1,0 +1,71 @@
+// The refusals of move out: 5, 7 to 13, and 16. Trigger, rights and hash are those of the entry.
+ghost use mathlib.Core.Path.{_≡_};
+ghost use Rattle.formats.specs.declared.request.Request.the-variants.{MoveOut};
+ghost use Rattle.calls.specs.Buffers.{lent};
+ghost use Rattle.calls.specs.Refusal.{first};
+ghost use Rattle.calls.specs.Conditions.{stateConditions};
+ghost use Rattle.calls.specs.Perform.{refusal};
+use calls::argument;
+use calls::count;
+use formats::entry;
+use formats::facts::EntryNumber;
+use formats::facts::Fillers;
+use formats::half;
+use formats::refusal;
+use formats::rule;
+use tables::card;
+use tables::heads;
+use tables::ledger;
+
+fn state(
+    ledger: &[u8],
+    titles: &[u8],
+    rules: &[u8],
+    entry: EntryNumber,
+    hash: u64,
+    fillers: Fillers,
+) -> u64
+    ensures { λ r. ⌜ r ≡ first (stateConditions (MoveOut entry hash fillers) (lent (now (ledger .entry)) (now (titles .entry)) (now (rules .entry)))) ⌝ }
+{
+    let title = card::title_half(titles, entry);
+    let rule = card::rule_half(rules, entry);
+    if !card::is_full(entry::kind(title, rule)) {
+        return refusal::KIND_OF_ENTRY;
+    }
+    if !ledger::is_away(ledger::state(ledger, half::content_id(title))) {
+        return refusal::STATE_OF_ROW;
+    }
+    if count::may_not_move(entry::facts(title, rule)) {
+        return refusal::NOTHING_LEFT;
+    }
+    if hash != rule::hash(rule) {
+        return refusal::HASH;
+    }
+    if card::leaves_key(fillers.f1, title) {
+        return refusal::FILLER;
+    }
+    if card::leaves_key(fillers.f2, rule) {
+        return refusal::FILLER;
+    }
+    0
+}
+
+pub fn refusal(
+    ledger: &[u8],
+    titles: &[u8],
+    rules: &[u8],
+    entry: EntryNumber,
+    hash: u64,
+    fillers: Fillers,
+) -> u64
+    ensures { λ r. ⌜ r ≡ refusal (MoveOut entry hash fillers) (lent (now (ledger .entry)) (now (titles .entry)) (now (rules .entry))) ⌝ }
+{
+    if !argument::is_numbered(entry.0) {
+        return refusal::ENTRY_NUMBER;
+    }
+    let w = heads::check(ledger, titles, rules);
+    if w != 0 {
+        return w;
+    }
+    state(ledger, titles, rules, entry, hash, fillers)
+}

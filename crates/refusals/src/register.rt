@@ -1,0 +1,28 @@
+// The refusals of register: 4, 6, 7 and 11. It is lent the ledger only.
+ghost use Rattle.formats.specs.declared.request.Request.the-variants.{Register};
+ghost use Rattle.refusals.specs.Ledger.{RefusedByLedger};
+use calls::argument;
+use formats::facts::ContentId;
+use formats::facts::Facts;
+use formats::head;
+use formats::refusal;
+use tables::ledger;
+
+pub fn refusal(ledger: &[u8], content: ContentId, facts: Facts) -> u64
+    ensures { λ r. ⌜ RefusedByLedger (Register content facts) (now (ledger .entry)) r ⌝ }
+{
+    if !argument::is_numbered(content.0) {
+        return refusal::CONTENT_ID;
+    }
+    if !argument::are_facts(facts) {
+        return refusal::FACTS;
+    }
+    let w = head::check_ledger(ledger);
+    if w != 0 {
+        return w;
+    }
+    if !ledger::is_empty(ledger::state(ledger, content)) {
+        return refusal::STATE_OF_ROW;
+    }
+    0
+}
