@@ -1,5 +1,8 @@
 // Formats a ledger of 64 rows and a card, and serves the requests of standard input, at most 4,096 bytes of them. It prints
 // a line for each request, its kind and its answer, and then `end` and the number that stopped reading, 0 at the end.
+ghost use mathlib.Core.Path.{_≡_};
+ghost use Rattle.calls.specs.Buffers.{lent};
+ghost use Rattle.music_counter.specs.Serve.{streamOf, carriedOut};
 use music_counter::serve;
 use music_counter::serve::Served;
 use tables::format;
@@ -11,10 +14,21 @@ fn line(kind: u64, answer: u64) {
     io::write_all(1, b"\n");
 }
 
-fn end(number: u64) {
-    io::write_all(1, b"end ");
-    io::print_decimal(1, number);
-    io::write_all(1, b"\n");
+// Serves the stream `s`, with a line for each request. Answers 0 where no byte is left, or the number that stopped reading.
+fn lines(ledger: &mut [u8], titles: &mut [u8], rules: &mut [u8], s: &[u8]) -> u64
+    ensures { λ r. ⌜ r ≡ streamOf (now (s .entry)) .stop ⌝ }
+    ensures { λ _. ⌜ lent (now (ledger .exit)) (now (titles .exit)) (now (rules .exit)) ≡ carriedOut (streamOf (now (s .entry)) .requests) (lent (now (ledger .entry)) (now (titles .entry)) (now (rules .entry))) ⌝ }
+{
+    let mut at: usize = 0;
+    while at < s.len() {
+        let served = serve::next(&mut *ledger, &mut *titles, &mut *rules, &s[at..]);
+        let Served::Answered { kind, answer, len } = served else {
+            return serve::number(served);
+        };
+        line(kind, answer);
+        at += len;
+    }
+    0
 }
 
 fn main() {
@@ -25,15 +39,8 @@ fn main() {
     format::format_card(&mut titles, &mut rules, 0);
     let mut input = [0u8; 4096];
     let n = io::read_full(0, &mut input);
-    let mut at: usize = 0;
-    while at < n {
-        let served = serve::next(&mut ledger, &mut titles, &mut rules, &input[at..n]);
-        let Served::Answered { kind, answer, len } = served else {
-            end(serve::number(served));
-            return;
-        };
-        line(kind, answer);
-        at += len;
-    }
-    end(0);
+    let number = lines(&mut ledger, &mut titles, &mut rules, &input[..n]);
+    io::write_all(1, b"end ");
+    io::print_decimal(1, number);
+    io::write_all(1, b"\n");
 }

@@ -160,19 +160,3 @@ set-aside b x e d = (ap Refused d ∙ ap (λ (y : RequestRead). servedBy y b) (s
 -- the bytes after it
 pub rest-of : (s : List ℕ) {x : List ℕ} {v : Served} {kind answer k : ℕ} → v ≡ Answered kind answer k → x ≡ part s k (length s) → x ≡ unread s v
 rest-of s {k = k} e q = q ∙ part-rest k (length s) s (omega arith) ∙ ap (unread s) (sym e)
-
--- it has at least a byte, and no more than there are
-pub record Took (s : List ℕ) (k : ℕ) : Type 0 where
-  pub some : 0 < k
-  pub within : k ≤ length s
-
-pub took : (s : List ℕ) (b : Buffers) {v : Served} {kind answer k : ℕ} → v ≡ servedBy (readRequest s) b → v ≡ Answered kind answer k → Took s k
-unfolding lengthOf
-took s b {k = k} e f = by (readRequest s) refl (sym e ∙ f)
-  where
-    by : (x : RequestRead) → readRequest s ≡ x → {kind answer : ℕ} → servedBy x b ≡ Answered kind answer k → Took s k
-    by (Faulty w) d g = absurd (let z : _≡_ {A = ℕ} 0 (suc k) = ap lengthOf g in omega arith)
-    by (Read q n) d g =
-        let z : _≡_ {A = ℕ} (suc n) (suc k) = ap lengthOf g in
-        let form = request-form s d in
-        record { some = omega (arith, form .positive); within = omega (arith, form .within) }
