@@ -1,0 +1,227 @@
+// What a till written in C calls: formatting, the seven calls and the tally, over its own buffers and plain numbers. Each
+// function only hands on what it was given; include/music_counter.h has the same ten in C.
+ghost use mathlib.Core.Path.{_≡_};
+ghost use Rattle.formats.specs.declared.request.Request.the-variants.{Register, Record, CheckOut, CheckIn, MoveOut, MoveIn, Delete};
+ghost use Rattle.calls.specs.Buffers.{lent};
+ghost use Rattle.tables.specs.Format.{ledgerFormatting, formattedLedger, cardFormatting, formattedTitles, formattedRules};
+ghost use Rattle.tables.specs.Tally.{tallyRefusal};
+ghost use Rattle.music_counter.specs.Answer.{Answers, AnswersByLedger};
+ghost use Rattle.till.specs.Given.{title, place, facts, fillers};
+ghost use Rattle.till.specs.Tally.{copiesAfter};
+use formats::facts::ContentId;
+use formats::facts::EntryNumber;
+use formats::facts::Facts;
+use formats::facts::Fillers;
+use music_counter::check_in;
+use music_counter::check_out;
+use music_counter::delete;
+use music_counter::move_in;
+use music_counter::move_out;
+use music_counter::record;
+use music_counter::register;
+use tables::format;
+use tables::tally;
+use tables::tally::Tallied;
+
+// Answers 0, or 4 or 7 with nothing changed.
+#[no_mangle]
+pub extern "C" fn counter_format_ledger(ledger: &mut [u8], rows: u64, application: u16) -> u64
+    ensures { λ r. ⌜ r ≡ ledgerFormatting (now (ledger .entry)) rows ⌝ }
+    ensures { λ _. ⌜ now (ledger .exit) ≡ formattedLedger (now (ledger .entry)) rows application ⌝ }
+{
+    format::format_ledger(&mut *ledger, rows, application)
+}
+
+// Answers 0, or 8 or 9 with nothing changed in either table.
+#[no_mangle]
+pub extern "C" fn counter_format_card(titles: &mut [u8], rules: &mut [u8], application: u16) -> u64
+    ensures { λ r. ⌜ r ≡ cardFormatting (now (titles .entry)) (now (rules .entry)) ⌝ }
+    ensures { λ _. ⌜ now (titles .exit) ≡ formattedTitles (now (titles .entry)) (now (rules .entry)) ⌝ }
+    ensures { λ _. ⌜ now (rules .exit) ≡ formattedRules (now (titles .entry)) (now (rules .entry)) application ⌝ }
+{
+    format::format_card(&mut *titles, &mut *rules, application)
+}
+
+// Answers 0, or 4, 6, 7 or 11 with nothing changed.
+#[no_mangle]
+pub extern "C" fn counter_register(
+    ledger: &mut [u8],
+    content: u64,
+    cci: u64,
+    trigger: u64,
+    rights: u64,
+    permits: u64,
+    title_key: u64,
+    sti_key: u64,
+) -> u64
+    ensures { λ r. ⌜ AnswersByLedger (Register (title content) (facts cci trigger rights permits «title_key» «sti_key»)) (now (ledger .entry)) r (now (ledger .exit)) ⌝ }
+{
+    let facts = Facts {
+        cci,
+        trigger,
+        rights,
+        permits,
+        title_key,
+        sti_key,
+    };
+    register::register(&mut *ledger, ContentId(content), facts)
+}
+
+// Answers 0, or 4, 5, 6, 7, 8, 9, 10 or 11 with nothing changed.
+#[no_mangle]
+pub extern "C" fn counter_record(
+    ledger: &mut [u8],
+    titles: &mut [u8],
+    rules: &mut [u8],
+    content: u64,
+    entry: u64,
+    cci: u64,
+    trigger: u64,
+    rights: u64,
+    permits: u64,
+    title_key: u64,
+    sti_key: u64,
+    hash: u64,
+) -> u64
+    ensures { λ r. ⌜ Answers (Record (title content) (place entry) (facts cci trigger rights permits «title_key» «sti_key») hash) (lent (now (ledger .entry)) (now (titles .entry)) (now (rules .entry))) r (lent (now (ledger .exit)) (now (titles .exit)) (now (rules .exit))) ⌝ }
+{
+    let facts = Facts {
+        cci,
+        trigger,
+        rights,
+        permits,
+        title_key,
+        sti_key,
+    };
+    record::record(
+        &mut *ledger,
+        &mut *titles,
+        &mut *rules,
+        ContentId(content),
+        EntryNumber(entry),
+        facts,
+        hash,
+    )
+}
+
+// Answers 0, or 4, 5, 7, 8, 9, 10, 11 or 12 with nothing changed.
+#[no_mangle]
+pub extern "C" fn counter_check_out(
+    ledger: &mut [u8],
+    titles: &mut [u8],
+    rules: &[u8],
+    content: u64,
+    entry: u64,
+) -> u64
+    ensures { λ r. ⌜ Answers (CheckOut (title content) (place entry)) (lent (now (ledger .entry)) (now (titles .entry)) (now (rules .entry))) r (lent (now (ledger .exit)) (now (titles .exit)) (now (rules .entry))) ⌝ }
+{
+    check_out::check_out(
+        &mut *ledger,
+        &mut *titles,
+        rules,
+        ContentId(content),
+        EntryNumber(entry),
+    )
+}
+
+// Answers 0, or 5, 7, 8, 9, 10, 11, 15 or 16 with nothing changed.
+#[no_mangle]
+pub extern "C" fn counter_check_in(
+    ledger: &mut [u8],
+    titles: &mut [u8],
+    rules: &[u8],
+    entry: u64,
+    f1: u64,
+) -> u64
+    ensures { λ r. ⌜ Answers (CheckIn (place entry) f1) (lent (now (ledger .entry)) (now (titles .entry)) (now (rules .entry))) r (lent (now (ledger .exit)) (now (titles .exit)) (now (rules .entry))) ⌝ }
+{
+    check_in::check_in(&mut *ledger, &mut *titles, rules, EntryNumber(entry), f1)
+}
+
+// Answers 0, or 5, 7, 8, 9, 10, 11, 12, 13 or 16 with nothing changed.
+#[no_mangle]
+pub extern "C" fn counter_move_out(
+    ledger: &mut [u8],
+    titles: &mut [u8],
+    rules: &mut [u8],
+    entry: u64,
+    hash: u64,
+    f1: u64,
+    f2: u64,
+    f3: u64,
+    f4: u64,
+) -> u64
+    ensures { λ r. ⌜ Answers (MoveOut (place entry) hash (fillers f1 f2 f3 f4)) (lent (now (ledger .entry)) (now (titles .entry)) (now (rules .entry))) r (lent (now (ledger .exit)) (now (titles .exit)) (now (rules .exit))) ⌝ }
+{
+    let fillers = Fillers { f1, f2, f3, f4 };
+    move_out::move_out(
+        &mut *ledger,
+        &mut *titles,
+        &mut *rules,
+        EntryNumber(entry),
+        hash,
+        fillers,
+    )
+}
+
+// Answers 0, or 4, 5, 7, 8, 9, 10, 11, 12 or 14 with nothing changed.
+#[no_mangle]
+pub extern "C" fn counter_move_in(
+    ledger: &mut [u8],
+    titles: &mut [u8],
+    rules: &mut [u8],
+    content: u64,
+    entry: u64,
+    hash: u64,
+) -> u64
+    ensures { λ r. ⌜ Answers (MoveIn (title content) (place entry) hash) (lent (now (ledger .entry)) (now (titles .entry)) (now (rules .entry))) r (lent (now (ledger .exit)) (now (titles .exit)) (now (rules .exit))) ⌝ }
+{
+    move_in::move_in(
+        &mut *ledger,
+        &mut *titles,
+        &mut *rules,
+        ContentId(content),
+        EntryNumber(entry),
+        hash,
+    )
+}
+
+// Answers 0, or 5, 7, 8, 9, 10, 11 or 16 with nothing changed.
+#[no_mangle]
+pub extern "C" fn counter_delete(
+    ledger: &mut [u8],
+    titles: &mut [u8],
+    rules: &mut [u8],
+    entry: u64,
+    f1: u64,
+    f2: u64,
+    f3: u64,
+    f4: u64,
+) -> u64
+    ensures { λ r. ⌜ Answers (Delete (place entry) (fillers f1 f2 f3 f4)) (lent (now (ledger .entry)) (now (titles .entry)) (now (rules .entry))) r (lent (now (ledger .exit)) (now (titles .exit)) (now (rules .exit))) ⌝ }
+{
+    let fillers = Fillers { f1, f2, f3, f4 };
+    delete::delete(
+        &mut *ledger,
+        &mut *titles,
+        &mut *rules,
+        EntryNumber(entry),
+        fillers,
+    )
+}
+
+// Answers 0, or 4, 8 or 9 with `copies` as it was.
+#[no_mangle]
+pub extern "C" fn counter_tally(titles: &[u8], rules: &[u8], content: u64, copies: &mut u64) -> u64
+    ensures { λ r. ⌜ r ≡ tallyRefusal (now (titles .entry)) (now (rules .entry)) content ⌝ }
+    ensures { λ _. ⌜ now (copies .exit) ≡ copiesAfter (now (titles .entry)) (now (rules .entry)) content (now (copies .entry)) ⌝ }
+{
+    let found = tally::tally(titles, rules, ContentId(content));
+    match found {
+        Tallied::Copies(n) => {
+            *copies = n;
+            0
+        }
+        Tallied::Refused(w) => w,
+    }
+}
