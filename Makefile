@@ -1,10 +1,10 @@
 # make demo: the counter on document 01's example. make test: every test, and the proofs last.
-.PHONY: demo test expected
+.PHONY: demo test expected till target/staticlib/libtill.a
 
 demo:
 	@echo "There is no program yet: only the byte formats, the calls as definitions, formatting and the tally. 'make test' proves and tests it."
 
-test: expected
+test: expected till
 	rt fmt --check
 	rt ci
 
@@ -16,3 +16,23 @@ expected: target/host/edges
 target/host/edges: host/edges/main.rs
 	@mkdir -p target/host
 	rustc --edition 2021 -O -o $@ $<
+
+# The C interface: the example against its stored output, and a test of every function, with guards around its buffers.
+till: target/host/till target/host/till-test
+	target/host/till | cmp - examples/till.txt
+	target/host/till-test
+
+C = $(CC) -std=c11 -Wall -Wextra -Werror -Iinclude
+GUARDS = -g -fsanitize=address,undefined -fno-sanitize-recover=all
+
+target/host/till: examples/till.c include/music_counter.h target/staticlib/libtill.a
+	@mkdir -p target/host
+	$(C) -O2 -o $@ $< target/staticlib/libtill.a
+
+target/host/till-test: host/till/test.c include/music_counter.h target/staticlib/libtill.a
+	@mkdir -p target/host
+	$(C) $(GUARDS) -o $@ $< target/staticlib/libtill.a
+
+# Whether it is up to date is for rt to say.
+target/staticlib/libtill.a:
+	rt staticlib till

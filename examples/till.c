@@ -1,0 +1,67 @@
+/* One title's way through a till: registered, lent, returned, moved to the card and back, deleted. */
+#include <inttypes.h>
+#include <stdio.h>
+
+#include "music_counter.h"
+
+#define ROWS 64
+#define APPLICATION 7
+
+static uint8_t ledger[COUNTER_LEDGER_SIZE(ROWS)];
+static uint8_t titles[COUNTER_TITLES_SIZE];
+static uint8_t rules[COUNTER_RULES_SIZE];
+
+/* Each buffer is passed as a pointer and a length. */
+#define LEDGER ledger, sizeof ledger
+#define TITLES titles, sizeof titles
+#define RULES rules, sizeof rules
+
+static void show(const char *step, uint64_t answer)
+{
+    printf("%-44s %2" PRIu64 "  %s\n", step, answer, counter_text(answer));
+}
+
+static void show_copies(uint64_t content)
+{
+    uint64_t copies = 0;
+    uint64_t answer = counter_tally(TITLES, RULES, content, &copies);
+
+    show("tally", answer);
+    if (answer == COUNTER_DONE)
+        printf("    copies of title %" PRIu64 ": %" PRIu64 "\n", content, copies);
+}
+
+int main(void)
+{
+    /* Title 1: one generation, three moves, one copy at a time. The card's secure module supplies keys and hash. */
+    const uint64_t title = 1, cci = 2, trigger = 0, rights = 3, permits = 1;
+    const uint64_t title_key = 0x11223344556677, sti_key = 0x8899aabbccddee, hash = 0x0123456789abcdef;
+    /* What keys are overwritten with; a till takes fresh random numbers. */
+    const uint64_t f1 = 0xf1a0a1a2a3a4a5a6, f2 = 0xf2b0b1b2b3b4b5b6, f3 = 0xf3c0c1c2c3c4c5c6, f4 = 0xf4d0d1d2d3d4d5d6;
+
+    show("format a ledger", counter_format_ledger(LEDGER, ROWS, APPLICATION));
+    show("format a card", counter_format_card(TITLES, RULES, APPLICATION));
+    show("register title 1",
+         counter_register(LEDGER, title, cci, trigger, rights, permits, title_key, sti_key));
+
+    show("check out to entry 7", counter_check_out(LEDGER, TITLES, RULES, title, 7));
+    show("check out to entry 8 too", counter_check_out(LEDGER, TITLES, RULES, title, 8));
+    show_copies(title);
+    show("move in to entry 9 while a copy is out", counter_move_in(LEDGER, TITLES, RULES, title, 9, hash));
+    show("check in entry 7, its own key as the filler", counter_check_in(LEDGER, TITLES, RULES, 7, title_key));
+    show("check in entry 7", counter_check_in(LEDGER, TITLES, RULES, 7, f1));
+    show_copies(title);
+
+    show("move in to entry 9", counter_move_in(LEDGER, TITLES, RULES, title, 9, hash));
+    show("check out while the title is away", counter_check_out(LEDGER, TITLES, RULES, title, 7));
+    show("move out with another hash", counter_move_out(LEDGER, TITLES, RULES, 9, hash + 1, f1, f2, f3, f4));
+    show("move out", counter_move_out(LEDGER, TITLES, RULES, 9, hash, f1, f2, f3, f4));
+    show("move in to entry 10", counter_move_in(LEDGER, TITLES, RULES, title, 10, hash));
+    show("move out: the fourth move", counter_move_out(LEDGER, TITLES, RULES, 10, hash, f1, f2, f3, f4));
+
+    show("delete entry 10", counter_delete(LEDGER, TITLES, RULES, 10, f1, f2, f3, f4));
+    show("delete entry 10 again", counter_delete(LEDGER, TITLES, RULES, 10, f1, f2, f3, f4));
+    show("register title 1 again",
+         counter_register(LEDGER, title, cci, trigger, rights, permits, title_key, sti_key));
+    return 0;
+}

@@ -1,0 +1,218 @@
+/*
+ * The music counter: paid music titles on a shop's ledger and on SD-Audio cards.
+ *
+ * A title lives in one place, its holder: a row of the shop's ledger or a full entry of the card. Its permits say how many
+ * loan copies may be out, its move rights how often it may move; 15 means unlimited in both. Seven calls change a title,
+ * two write a fresh ledger and a fresh card, and one counts copies. Link with libtill.a.
+ *
+ * THE BUFFERS
+ *
+ * The caller owns three buffers and passes each as a pointer and a length in bytes:
+ *
+ *   ledger   the shop's rows, COUNTER_LEDGER_SIZE(R) bytes for R rows, R from 1 to 999
+ *   titles   the card's title table, opened (deciphered), COUNTER_TITLES_SIZE bytes
+ *   rules    the card's rule table, opened, COUNTER_RULES_SIZE bytes
+ *
+ * Row c of the ledger (1 to R) is title c, and c is the content ID on the card. Entry j (1 to 999) is a place on the card,
+ * with a title half in one table and a rule half in the other. A content ID and an entry number have nothing to do with
+ * each other. The ciphers, and the hash C_HASH of an entry, are the card's secure module's: the counter stores the hash
+ * and compares it, and computes neither.
+ *
+ * WHAT A CALLER MUST KEEP
+ *
+ * - Each pointer points to as many bytes as its length says, readable and (where it is not const) writable. No pointer is
+ *   null, also where its length is 0.
+ * - The buffers of one call do not overlap.
+ * - Nobody else writes to the buffers while a call runs, and nobody reads them while a call runs that may write them. Calls
+ *   on different buffers may run at the same time: the library keeps nothing between calls.
+ *
+ * Nothing else has to be tested before a call. Wrong lengths, damaged tables and arguments out of range, up to 2^64 - 1,
+ * are refused.
+ *
+ * THE ANSWER
+ *
+ * Every function answers a number: COUNTER_DONE (0), or the number of a refusal. A refusal changes no byte of any buffer.
+ * Tests go in the order of the numbers, and the first that fails is the answer; each function's comment has its numbers in
+ * the order tested. counter_text names a number in words.
+ *
+ * FACTS AND FILLERS
+ *
+ * A title's facts are its copy control information cci (0 free, 2 one generation, 3 no more), its trigger (0, or 1 for a
+ * title that does not move), its move rights and permits (0 to 15), its title key and its track information (STI) key
+ * (below 2^56). Fillers f1 to f4 are what a wipe writes over keys; fresh random numbers do. f1 goes over the first 8 bytes
+ * of a title half, f2 over the first 8 bytes of a rule half, f3 and f4 over its last 16. A wipe also clears the half's
+ * availability flag and changes nothing else.
+ */
+#ifndef MUSIC_COUNTER_H
+#define MUSIC_COUNTER_H
+
+#include <stddef.h>
+#include <stdint.h>
+
+#ifdef __cplusplus
+extern "C" {
+#endif
+
+/* Sizes in bytes. */
+#define COUNTER_TITLES_SIZE 16000
+#define COUNTER_RULES_SIZE 32000
+#define COUNTER_LEDGER_SIZE(rows) (24 * ((size_t)(rows) + 1))
+
+/* The most rows of a ledger, and the last entry of a card. */
+#define COUNTER_MOST_ROWS 999
+#define COUNTER_LAST_ENTRY 999
+
+/* Permits or rights that are not counted down. */
+#define COUNTER_UNLIMITED 15
+
+/* The answers. 1 to 3 are answers to request bytes; no function below has them. */
+enum {
+    COUNTER_DONE = 0,           /* done */
+    COUNTER_TOO_SHORT = 1,      /* request bytes end inside a request, or there is no room to write one */
+    COUNTER_NUMBER = 2,         /* a number in request bytes is not in its shortest form, or above 2^64 - 1 */
+    COUNTER_KIND = 3,           /* a request's kind is not 1 to 7 */
+    COUNTER_CONTENT_ID = 4,     /* content ID not 1 to 999 (in formatting: rows) */
+    COUNTER_ENTRY_NUMBER = 5,   /* entry number not 1 to 999 */
+    COUNTER_FACTS = 6,          /* a fact out of range */
+    COUNTER_LEDGER = 7,         /* ledger length or head wrong */
+    COUNTER_TITLES = 8,         /* title table length or head wrong */
+    COUNTER_RULES = 9,          /* rule table length or head wrong, or another application's card */
+    COUNTER_KIND_OF_ENTRY = 10, /* the entry is not of the kind that the call needs */
+    COUNTER_STATE_OF_ROW = 11,  /* the row is above R, or not in the state that the call needs */
+    COUNTER_NOTHING_LEFT = 12,  /* check-out with permits 0; move with trigger 1 or rights 0 */
+    COUNTER_HASH = 13,          /* move out: the hash is not the stored C_HASH */
+    COUNTER_COPY_OUT = 14,      /* move in: a copy of the title is on the card */
+    COUNTER_PERMITS_FULL = 15,  /* check-in: permits are 14 already */
+    COUNTER_FILLER = 16         /* a filler would leave the key that it is to overwrite */
+};
+
+/* An answer in words. */
+static inline const char *counter_text(uint64_t number)
+{
+    switch (number) {
+    case COUNTER_DONE: return "done";
+    case COUNTER_TOO_SHORT: return "request bytes end too early, or too little room for them";
+    case COUNTER_NUMBER: return "a number that is not in its shortest form or too large";
+    case COUNTER_KIND: return "no such kind of request";
+    case COUNTER_CONTENT_ID: return "content ID (in formatting: rows) not 1 to 999";
+    case COUNTER_ENTRY_NUMBER: return "entry number not 1 to 999";
+    case COUNTER_FACTS: return "a fact out of range";
+    case COUNTER_LEDGER: return "ledger length or head wrong";
+    case COUNTER_TITLES: return "title table length or head wrong";
+    case COUNTER_RULES: return "rule table length, head or application number wrong";
+    case COUNTER_KIND_OF_ENTRY: return "entry not of the kind needed";
+    case COUNTER_STATE_OF_ROW: return "row above R or not in the state needed";
+    case COUNTER_NOTHING_LEFT: return "no permit left, no move right left, or the trigger is set";
+    case COUNTER_HASH: return "hash differs from the stored one";
+    case COUNTER_COPY_OUT: return "a copy of the title is on the card";
+    case COUNTER_PERMITS_FULL: return "permits are 14 already";
+    case COUNTER_FILLER: return "a filler would leave a key in place";
+    default: return "no answer of the counter";
+    }
+}
+
+/*
+ * Writes a fresh ledger of `rows` rows for an application number. Looks at no byte of the buffer.
+ *
+ * Answers 4 where rows is not 1 to 999; 7 where ledger_len is not COUNTER_LEDGER_SIZE(rows).
+ * Done: all bytes are written: the head, and every row empty.
+ */
+uint64_t counter_format_ledger(uint8_t *ledger, size_t ledger_len, uint64_t rows, uint16_t application);
+
+/*
+ * Writes the two tables of a fresh card for an application number. Looks at no byte of the buffers.
+ *
+ * Answers 8 where titles_len is not COUNTER_TITLES_SIZE; 9 where rules_len is not COUNTER_RULES_SIZE.
+ * Done: all bytes of both tables are written: the heads, and every entry free.
+ */
+uint64_t counter_format_card(uint8_t *titles, size_t titles_len, uint8_t *rules, size_t rules_len, uint16_t application);
+
+/*
+ * Registers title `content` with its facts in the ledger.
+ *
+ * Answers 4, 6, 7; 11 where the row is above R or not empty.
+ * Done: the row is here with these facts.
+ */
+uint64_t counter_register(uint8_t *ledger, size_t ledger_len, uint64_t content, uint64_t cci, uint64_t trigger,
+                          uint64_t rights, uint64_t permits, uint64_t title_key, uint64_t sti_key);
+
+/*
+ * Records title `content` with its facts on the card, at once and without a stay in the ledger.
+ *
+ * Answers 4, 5, 6, 7, 8, 9; 10 where the entry is not free; 11 where the row is above R or not empty.
+ * Done: the row is away, and the entry is full with the facts and the hash.
+ */
+uint64_t counter_record(uint8_t *ledger, size_t ledger_len, uint8_t *titles, size_t titles_len, uint8_t *rules,
+                        size_t rules_len, uint64_t content, uint64_t entry, uint64_t cci, uint64_t trigger, uint64_t rights,
+                        uint64_t permits, uint64_t title_key, uint64_t sti_key, uint64_t hash);
+
+/*
+ * Lends a copy of title `content` to an entry of the card.
+ *
+ * Answers 4, 5, 7, 8, 9; 10 where the entry is not free; 11 where the row is above R or not here; 12 where its permits
+ * are 0.
+ * Done: the entry is a copy, with the row's CCI and title key; the row's permits are one less, or 15 as before. Of the row
+ * no other byte changes, and the rule table is only read.
+ */
+uint64_t counter_check_out(uint8_t *ledger, size_t ledger_len, uint8_t *titles, size_t titles_len, const uint8_t *rules,
+                           size_t rules_len, uint64_t content, uint64_t entry);
+
+/*
+ * Takes a copy back from an entry of the card. The title is the one whose content ID the entry has.
+ *
+ * Answers 5, 7, 8, 9; 10 where the entry is not a copy; 11 where its row is above R or not here; 15 where that row's
+ * permits are 14; 16 where f1 modulo 2^56 is the copy's title key.
+ * Done: the title half is wiped with f1; the row's permits are one more, or 15 as before. Of the row no other byte changes,
+ * and the rule table is only read.
+ */
+uint64_t counter_check_in(uint8_t *ledger, size_t ledger_len, uint8_t *titles, size_t titles_len, const uint8_t *rules,
+                          size_t rules_len, uint64_t entry, uint64_t f1);
+
+/*
+ * Moves the title of a full entry out of the card, into its row of the ledger.
+ *
+ * Answers 5, 7, 8, 9; 10 where the entry is not full; 11 where its row is above R or not away; 12 where the entry's trigger
+ * is 1 or its rights are 0; 13 where hash is not the entry's C_HASH; 16 where f1 modulo 2^56 is the entry's title key or
+ * f2 modulo 2^56 its STI key.
+ * Done: the row is here with the entry's facts, rights one less, or 15 as before; both halves are wiped.
+ */
+uint64_t counter_move_out(uint8_t *ledger, size_t ledger_len, uint8_t *titles, size_t titles_len, uint8_t *rules,
+                          size_t rules_len, uint64_t entry, uint64_t hash, uint64_t f1, uint64_t f2, uint64_t f3,
+                          uint64_t f4);
+
+/*
+ * Moves title `content` from its row of the ledger into an entry of the card.
+ *
+ * Answers 4, 5, 7, 8, 9; 10 where the entry is not free; 11 where the row is above R or not here; 12 where its trigger is 1
+ * or its rights are 0; 14 where a copy of the title is on the card.
+ * Done: the entry is full with the row's facts, rights one less, or 15 as before, and the hash; the row is away.
+ */
+uint64_t counter_move_in(uint8_t *ledger, size_t ledger_len, uint8_t *titles, size_t titles_len, uint8_t *rules,
+                         size_t rules_len, uint64_t content, uint64_t entry, uint64_t hash);
+
+/*
+ * Deletes what an entry of the card has: a copy, or a full title.
+ *
+ * Answers 5, 7, 8, 9; 10 where the entry is neither a copy nor full; 11 where it is full and its row is above R or not away;
+ * 16 where f1 modulo 2^56 is the entry's title key or, in a full entry, f2 modulo 2^56 its STI key.
+ * Done, a copy: the title half is wiped with f1. The row is neither tested nor changed, nor is the rule table; f2 to f4 are
+ * not used.
+ * Done, a full entry: both halves are wiped, and the row is gone: it is not used again.
+ */
+uint64_t counter_delete(uint8_t *ledger, size_t ledger_len, uint8_t *titles, size_t titles_len, uint8_t *rules,
+                        size_t rules_len, uint64_t entry, uint64_t f1, uint64_t f2, uint64_t f3, uint64_t f4);
+
+/*
+ * Counts the copies of title `content` on the card.
+ *
+ * Answers 4, 8, 9. There is no ledger here, so 9 does not ask whose application the card is of.
+ * Done: *copies is their number, 0 to 999. On a refusal *copies keeps its value. The tables are only read.
+ */
+uint64_t counter_tally(const uint8_t *titles, size_t titles_len, const uint8_t *rules, size_t rules_len, uint64_t content,
+                       uint64_t *copies);
+
+#ifdef __cplusplus
+}
+#endif
+
+#endif
