@@ -22,7 +22,7 @@ till: target/host/till target/host/till-test
 	target/host/till | cmp - examples/till.txt
 	target/host/till-test
 
-C = $(CC) -std=c11 -Wall -Wextra -Werror -Iinclude
+C = $(CC) -std=c11 -Wall -Wextra -pedantic -Werror -Iinclude
 GUARDS = -g -fsanitize=address,undefined -fno-sanitize-recover=all
 
 target/host/till: examples/till.c include/music_counter.h target/staticlib/libtill.a

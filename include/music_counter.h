@@ -3,7 +3,9 @@
  *
  * A title lives in one place, its holder: a row of the shop's ledger or a full entry of the card. Its permits say how many
  * loan copies may be out, its move rights how often it may move; 15 means unlimited in both. Seven calls change a title,
- * two write a fresh ledger and a fresh card, and one counts copies. Link with libtill.a.
+ * two write a fresh ledger and a fresh card, and one counts copies.
+ *
+ * Link with libtill.a, which is for Linux on x86-64 and needs no flags: cc till.c libtill.a
  *
  * THE BUFFERS
  *
@@ -18,11 +20,15 @@
  * each other. The ciphers, and the hash C_HASH of an entry, are the card's secure module's: the counter stores the hash
  * and compares it, and computes neither.
  *
+ * A row is empty; here, where the ledger holds the title; away, where the card holds it; or gone, where the title was
+ * deleted. A damaged row is in no state. An entry is free; a copy, lent from a row; full, the holder of its title; or torn,
+ * where its halves do not fit together. No call takes a torn entry.
+ *
  * WHAT A CALLER MUST KEEP
  *
  * - Each pointer points to as many bytes as its length says, readable and (where it is not const) writable. No pointer is
  *   null, also where its length is 0.
- * - The buffers of one call do not overlap.
+ * - The buffers of one call do not overlap, and the number that a tally writes lies in none of them.
  * - Nobody else writes to the buffers while a call runs, and nobody reads them while a call runs that may write them. Calls
  *   on different buffers may run at the same time: the library keeps nothing between calls.
  *
@@ -40,8 +46,8 @@
  * A title's facts are its copy control information cci (0 free, 2 one generation, 3 no more), its trigger (0, or 1 for a
  * title that does not move), its move rights and permits (0 to 15), its title key and its track information (STI) key
  * (below 2^56). Fillers f1 to f4 are what a wipe writes over keys; fresh random numbers do. f1 goes over the first 8 bytes
- * of a title half, f2 over the first 8 bytes of a rule half, f3 and f4 over its last 16. A wipe also clears the half's
- * availability flag and changes nothing else.
+ * of a title half, f2 over the first 8 bytes of a rule half, f3 and then f4 over its last 16, each with its most
+ * significant byte first. A wipe also clears the half's availability flag and changes nothing else.
  */
 #ifndef MUSIC_COUNTER_H
 #define MUSIC_COUNTER_H
