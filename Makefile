@@ -1,8 +1,11 @@
 # make demo: the counter on document 01's example. make test: every test, and the proofs last.
 .PHONY: demo test expected till target/staticlib/libtill.a
 
+# Proving and building takes a few minutes, once.
 demo:
-	@echo "There is no program yet: only the byte formats, the calls as definitions, formatting and the tally. 'make test' proves and tests it."
+	@mkdir -p target
+	@rt check counter > target/demo.log || { tail -20 target/demo.log; exit 1; }
+	target/bin/counter < crates/counter/stdin
 
 test: expected till
 	rt fmt --check
@@ -13,7 +16,7 @@ expected: target/host/edges
 	target/host/edges cases | cmp - crates/edges/stdin
 	target/host/edges answers | cmp - crates/edges/stdout
 
-target/host/edges: host/edges/main.rs
+target/host/edges: host/edges/main.rs host/edges/calls.rs
 	@mkdir -p target/host
 	rustc --edition 2021 -O -o $@ $<
 

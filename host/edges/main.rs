@@ -4,6 +4,8 @@
 
 use std::sync::atomic::{AtomicBool, Ordering};
 
+mod calls;
+
 // Whether the answers are printed too.
 static ANSWERS: AtomicBool = AtomicBool::new(false);
 
@@ -81,6 +83,7 @@ fn main() {
     rows();
     formatting();
     tallies();
+    calls::all();
 }
 
 const FILL: u8 = 0xee;

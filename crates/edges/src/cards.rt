@@ -2,6 +2,7 @@
 ghost use mathlib.Core.Path.{_≡_};
 ghost use Prim.Native.Nat.{_≤_};
 ghost use lib.ListN.{length};
+ghost use Rattle.tables.specs.Format.{formattedLedger, formattedTitles, formattedRules};
 use crate::lines;
 use crate::print;
 use formats::facts::ContentId;
@@ -11,30 +12,27 @@ use tables::tally;
 use tables::tally::Tallied;
 
 // A buffer with room for each of the three tables, and a byte more.
-fn buffer(x: u8) -> [u8; 32001]
+pub fn buffer(x: u8) -> [u8; 32001]
     ensures { λ r. ⌜ 32001 ≡ length r ⌝ }
 {
     [x; 32001]
-}
-
-// How many bytes of a buffer are `x`.
-fn count(buffer: &[u8], x: u8) -> u64 {
-    let mut n: u64 = 0;
-    for i in 0..buffer.len() {
-        if buffer[i] == x {
-            n += 1;
-        }
-    }
-    n
 }
 
 // A buffer that held bytes EE: its first 32 bytes, and how many of all its bytes are 0 and how many are still EE.
 fn state(word: &[u8], buffer: &[u8])
     requires { ⌜ 32 ≤ length (now buffer) ⌝ }
 {
+    let mut zeros: u64 = 0;
+    let mut kept: u64 = 0;
+    for i in 0..buffer.len() {
+        match buffer[i] {
+            0 => zeros += 1,
+            0xee => kept += 1,
+            _ => {}
+        }
+    }
     print::bytes(word, &buffer[..32]);
-    print::number(b"zeros", count(buffer, 0));
-    print::number(b"kept", count(buffer, 0xee));
+    print::list(b"zeros kept", &[zeros, kept]);
 }
 
 fn show(word: &[u8], buffer: &[u8; 32001]) {
@@ -42,14 +40,19 @@ fn show(word: &[u8], buffer: &[u8; 32001]) {
 }
 
 // Formats a ledger, and asks whether it passes then.
-fn format_and_check_ledger(ledger: &mut [u8], rows: u64, application: u16) {
+fn format_and_check_ledger(ledger: &mut [u8], rows: u64, application: u16)
+    ensures { λ _. ⌜ now (ledger .exit) ≡ formattedLedger (now (ledger .entry)) rows application ⌝ }
+{
     let w = format::format_ledger(&mut *ledger, rows, application);
     print::number(b"answer", w);
     print::number(b"check", head::check_ledger(&*ledger));
 }
 
 // Formats a card, and asks whether its tables pass then.
-fn format_and_check_card(titles: &mut [u8], rules: &mut [u8], application: u16) {
+fn format_and_check_card(titles: &mut [u8], rules: &mut [u8], application: u16)
+    ensures { λ _. ⌜ now (titles .exit) ≡ formattedTitles (now (titles .entry)) (now (rules .entry)) ⌝ }
+    ensures { λ _. ⌜ now (rules .exit) ≡ formattedRules (now (titles .entry)) (now (rules .entry)) application ⌝ }
+{
     let w = format::format_card(&mut *titles, &mut *rules, application);
     print::number(b"answer", w);
     print::number(b"check", head::check_titles(&*titles));
@@ -92,22 +95,21 @@ pub fn format_card(line: &[u8]) {
 }
 
 // Puts the head that token k spells at the front of a table, and the half that token k + 2 spells at each place from `at`
-// up to `end`. False where a token has another width.
-fn fill(line: &[u8], k: usize, table: &mut [u8], width: usize, at: usize, end: usize) -> bool
+// up to `end`. A token of another width makes the case none.
+fn fill(line: &[u8], k: usize, table: &mut [u8], width: usize, at: usize, end: usize)
     requires { ⌜ (k ≤ 2) × (1 ≤ width) × (width ≤ 32) × (at ≤ 100000) × (width ≤ end) × (end ≤ length (now table)) ⌝ }
     ensures { λ _. ⌜ length (now (table .exit)) ≡ length (now (table .entry)) ⌝ }
 {
     if lines::bytes(line, k, &mut table[..width]) != width {
-        return false;
+        print::unknown();
     }
     let mut a = at;
     while a + width <= end {
         if lines::bytes(line, k + 2, &mut table[a..a + width]) != width {
-            return false;
+            print::unknown();
         }
         a += width;
     }
-    true
 }
 
 fn tallied(found: Tallied) {
@@ -143,13 +145,7 @@ pub fn copies(line: &[u8]) {
     let titles_end = 16 * (v[2] % 1000) as usize + 16;
     let rules_at = 32 * (v[3] % 1000) as usize;
     let rules_end = 32 * (v[4] % 1000) as usize + 32;
-    if !fill(line, 1, &mut titles, 16, titles_at, titles_end) {
-        print::unknown();
-        return;
-    }
-    if !fill(line, 2, &mut rules, 32, rules_at, rules_end) {
-        print::unknown();
-        return;
-    }
+    fill(line, 1, &mut titles, 16, titles_at, titles_end);
+    fill(line, 2, &mut rules, 32, rules_at, rules_end);
     cut(&titles, &rules, v[5], v[6], ContentId(v[0]));
 }

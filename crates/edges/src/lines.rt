@@ -1,14 +1,14 @@
 // The parts of a line. These are a test program's helpers: their contracts give the bounds that callers need.
 ghost use mathlib.Core.Path.{_≡_};
 ghost use mathlib.Core.Bool.{true};
-ghost use Prim.Native.Nat.{_+_, _*_, _≤_};
+ghost use mathlib.Core.Logic.{_⊎_};
+ghost use Prim.Native.Nat.{_≤_};
 ghost use lib.ListN.{length};
 use formats::field;
 
 // The place of the first byte `stop` from `at` on, or the end.
 pub fn until(s: &[u8], at: usize, stop: u8) -> usize
-    requires { ⌜ at ≤ length (now s) ⌝ }
-    ensures { λ r. ⌜ at ≤ r ⌝ }
+    ensures { λ r. ⌜ (at ≤ length (now (s .entry)) → at ≤ r) ⌝ }
     ensures { λ r. ⌜ r ≤ length (now (s .entry)) ⌝ }
 {
     let mut i = at;
@@ -18,7 +18,7 @@ pub fn until(s: &[u8], at: usize, stop: u8) -> usize
         }
         i += 1;
     }
-    i
+    s.len()
 }
 
 // Token k of a line, where token 0 is its word; empty where there are fewer.
@@ -110,38 +110,29 @@ fn pair(high: u8, low: u8) -> u16
     (16 * a + b) as u16
 }
 
-// How many bytes a token spells, by its length: one more than `most` where they are more or the token is none.
-fn size(s: &[u8], most: usize) -> usize
-    requires { ⌜ most ≤ 100000 ⌝ }
-    ensures { λ r. ⌜ r ≤ most + 1 ⌝ }
-    ensures { λ r. ⌜ (r ≤ most → 2 * r ≤ length (now (s .entry))) ⌝ }
-{
-    let n = s.len() / 2;
-    if most < n {
-        return most + 1;
-    }
-    if n == 0 {
-        return if starts(s, b"-") { 0 } else { most + 1 };
-    }
-    if s.len() % 2 == 0 { n } else { most + 1 }
-}
+// The count of a token that spells no bytes, or more than there is room for.
+const NONE: usize = 0xffff_ffff;
 
-// Puts the bytes that token k spells at the front of `out` and answers how many they are: one more than `out` has where
-// they do not fit or the token is none.
+// Puts the bytes that token k spells at the front of `out` and answers how many they are, or `NONE`.
 pub fn bytes(line: &[u8], k: usize, out: &mut [u8]) -> usize
-    requires { ⌜ length (now out) ≤ 100000 ⌝ }
-    ensures { λ r. ⌜ r ≤ length (now (out .exit)) + 1 ⌝ }
+    ensures { λ r. ⌜ (r ≤ length (now (out .exit))) ⊎ (r ≡ 0xffff_ffff) ⌝ }
     ensures { λ _. ⌜ length (now (out .exit)) ≡ length (now (out .entry)) ⌝ }
 {
     let s = token(line, k);
-    let n = size(s, out.len());
+    let n = s.len() / 2;
+    if n == 0 {
+        return if starts(s, b"-") { 0 } else { NONE };
+    }
+    if s.len() % 2 != 0 {
+        return NONE;
+    }
     if out.len() < n {
-        return n;
+        return NONE;
     }
     for i in 0..n {
         let x = pair(s[2 * i], s[2 * i + 1]);
         if 255 < x {
-            return out.len() + 1;
+            return NONE;
         }
         out[i] = x as u8;
     }
@@ -161,13 +152,12 @@ pub fn number(line: &[u8], k: usize) -> u64
 }
 
 // The numbers of the twelve tokens from token `first` on.
-pub fn numbers(line: &[u8], first: usize) -> [u64; 12]
-    requires { ⌜ first ≤ 12 ⌝ }
+pub fn numbers(line: &[u8], first: u8) -> [u64; 12]
     ensures { λ r. ⌜ 12 ≡ length r ⌝ }
 {
     let mut values = [0u64; 12];
     for k in 0..12 {
-        values[k] = number(line, first + k);
+        values[k] = number(line, first as usize + k);
     }
     values
 }

@@ -1,5 +1,5 @@
-// Runs the cases of standard input, one a line, on the functions of `formats` and `tables`, and prints each line with
-// ` -> ` and the answer. A line whose word is not known, or whose tokens do not fit, is answered `?`.
+// Runs the cases of standard input, one a line, on the functions of `formats`, `tables` and `music_counter`, and prints each
+// line with ` -> ` and the answer. A line whose word is not known, or whose tokens do not fit, is answered `?`.
 //
 // A line is a word and then tokens, with single spaces between. A token is hexadecimal with two digits a byte, `-` for no
 // bytes: a byte string, or a number in at most 8 bytes, the most significant first. The words and their tokens:
@@ -31,9 +31,14 @@
 //   format-card        application number, lengths of the title table and of the rule table
 //   tally              title head, rule head, title half, rule half, content ID, first and last entry of the title half,
 //                      first and last entry of the rule half, lengths of the title table and of the rule table
+//   call               patches, R, application number, lengths of the ledger, the title table and the rule table,
+//                      kind, nine arguments
+//   serve              requests' bytes, R, application number, lengths of the ledger, the title table and the rule table
 //
 // Arguments that a kind does not have are `-`. A table is its head and zeros, cut to its length. What is written goes over
-// bytes EE (half-write: FF). Entry numbers are taken modulo 1,000.
+// bytes EE (half-write: FF). Entry numbers and R are taken modulo 1,000. A patch is four bytes: the table (0 ledger, 1
+// titles, 2 rules), a place in two bytes, and the byte that stands there after formatting. What call and serve change is
+// shown in runs, each with its table and place.
 mod cards;
 mod halves;
 mod heads;
@@ -41,16 +46,17 @@ mod lines;
 mod numbers;
 mod print;
 mod requests;
+mod serving;
 
 ghost use mathlib.Core.Path.{_≡_};
 ghost use Prim.Native.Nat.{_≤_};
 ghost use lib.ListN.{length};
 
 // Room for the cases.
-fn room() -> [u8; 262144]
-    ensures { λ r. ⌜ 262144 ≡ length r ⌝ }
+fn room() -> [u8; 524288]
+    ensures { λ r. ⌜ 524288 ≡ length r ⌝ }
 {
-    [0; 262144]
+    [0; 524288]
 }
 
 fn main() {
@@ -60,7 +66,7 @@ fn main() {
 }
 
 fn cases(text: &[u8])
-    requires { ⌜ length (now text) ≤ 262144 ⌝ }
+    requires { ⌜ length (now text) ≤ 524288 ⌝ }
 {
     let mut at = 0;
     while at < text.len() {
@@ -73,9 +79,9 @@ fn cases(text: &[u8])
 fn case(line: &[u8]) {
     io::write_all(1, line);
     io::write_all(1, b" ->");
-    let mut first = [0u8; 128];
+    let mut first = [0u8; 512];
     let n = lines::bytes(line, 1, &mut first);
-    if n <= 128 {
+    if n <= 512 {
         answer(line, &first[..n]);
     } else {
         print::unknown();
@@ -92,7 +98,7 @@ fn answer(line: &[u8], s: &[u8]) {
           title-write 03 title-read 10 title-wipe 11 half-write 03 rule-write 08 rule-read 10 rule-wipe 14 entry-kind 20 \
           check-ledger 11 check-titles 11 check-rules 12 head-ledger 10 head-rules 10 \
           row-state 10 row-write-here 06 row-write-plain 01 row-write-permits 01 \
-          format-ledger 03 format-card 03 tally 47",
+          format-ledger 03 format-card 03 tally 47 call 1f serve 15",
     ) {
         0 => numbers::len(line),
         1 => numbers::write(line),
@@ -120,6 +126,8 @@ fn answer(line: &[u8], s: &[u8]) {
         23 => cards::format_ledger(line),
         24 => cards::format_card(line),
         25 => cards::copies(line),
+        26 => serving::call(line, s),
+        27 => serving::stream(line, s),
         _ => print::unknown(),
     }
 }

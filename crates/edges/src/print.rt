@@ -25,6 +25,10 @@ pub fn list(names: &[u8], values: &[u64]) {
     }
 }
 
+pub fn byte(x: u8) {
+    io::print_hex(1, x as u64, 2);
+}
+
 // All the bytes of `s`, or `-` where there are none.
 pub fn bytes(word: &[u8], s: &[u8]) {
     name(word);

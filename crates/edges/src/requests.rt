@@ -1,7 +1,6 @@
 // Requests.
 ghost use mathlib.Core.Path.{_≡_};
 ghost use mathlib.Core.List.{[], _∷_};
-ghost use Prim.Native.Nat.{_≤_};
 ghost use lib.ListN.{getD};
 ghost use Rattle.formats.specs.Request.{factsFrom, fillersFrom};
 use crate::lines;
@@ -12,35 +11,45 @@ use formats::request;
 use formats::request::Request;
 use formats::request::RequestRead;
 
+// The number at place i, 0 where there is none.
+fn at(v: [u64; 12], i: usize) -> u64
+    ensures { λ r. ⌜ r ≡ getD v i 0 ⌝ }
+{
+    if 12 <= i {
+        return 0;
+    }
+    v[i]
+}
+
 // The facts that stand in `v` from place i on.
-pub fn facts(v: [u64; 12], i: usize) -> Facts
-    requires { ⌜ i ≤ 3 ⌝ }
+pub fn facts(v: [u64; 12], i: u8) -> Facts
     ensures { λ r. ⌜ r ≡ factsFrom v i ⌝ }
 {
+    let i = i as usize;
     Facts {
-        cci: v[i],
-        trigger: v[i + 1],
-        rights: v[i + 2],
-        permits: v[i + 3],
-        title_key: v[i + 4],
-        sti_key: v[i + 5],
+        cci: at(v, i),
+        trigger: at(v, i + 1),
+        rights: at(v, i + 2),
+        permits: at(v, i + 3),
+        title_key: at(v, i + 4),
+        sti_key: at(v, i + 5),
     }
 }
 
-pub fn fillers(v: [u64; 12], i: usize) -> Fillers
-    requires { ⌜ i ≤ 3 ⌝ }
+pub fn fillers(v: [u64; 12], i: u8) -> Fillers
     ensures { λ r. ⌜ r ≡ fillersFrom v i ⌝ }
 {
+    let i = i as usize;
     Fillers {
-        f1: v[i],
-        f2: v[i + 1],
-        f3: v[i + 2],
-        f4: v[i + 3],
+        f1: at(v, i),
+        f2: at(v, i + 1),
+        f3: at(v, i + 2),
+        f4: at(v, i + 3),
     }
 }
 
 // The first nine of the numbers of a line.
-fn nine(v: [u64; 12]) -> [u64; 9]
+pub fn nine(v: [u64; 12]) -> [u64; 9]
     ensures { λ r. ⌜ r ≡ getD v 0 0 ∷ getD v 1 0 ∷ getD v 2 0 ∷ getD v 3 0 ∷ getD v 4 0 ∷ getD v 5 0 ∷ getD v 6 0 ∷ getD v 7 0 ∷ getD v 8 0 ∷ [] ⌝ }
 {
     [v[0], v[1], v[2], v[3], v[4], v[5], v[6], v[7], v[8]]

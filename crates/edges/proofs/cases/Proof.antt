@@ -20,10 +20,10 @@ until-requires : tie.Need-until-requires Inv-loop μ-loop
 until-requires c κs = search needs
 
 sub-case : tie.Need-sub-case Inv-loop μ-loop
-sub-case c = omega arith
+sub-case c = omega (arith, c .until .ensures .0 (omega arith))
 
 part-case-start : tie.Need-part-case-start Inv-loop μ-loop
-part-case-start c = omega arith
+part-case-start c = omega (arith, c .until .ensures .0 (omega arith))
 
 part-case-end : tie.Need-part-case-end Inv-loop μ-loop
 part-case-end c = omega arith
@@ -35,7 +35,7 @@ add-at : tie.Need-add-at Inv-loop μ-loop
 add-at c = omega arith
 
 loop-less : tie.Need-loop-less Inv-loop μ-loop
-loop-less c = omega arith
+loop-less c = omega (arith, c .before .before .until .ensures .0 (omega arith))
 
 loop-again : tie.Need-loop-again Inv-loop μ-loop
 loop-again c = search needs

@@ -2,8 +2,9 @@
 -- Assumes nothing.
 use Prim.Native.Nat.{_+_, _-_, _≤_}
 use mathlib.Core.Path.{_≡_}
-use native.Mathlib.Omega.{arith}
 use lib.ListN.{length, length-take}
+use native.Mathlib.Omega.{arith}
+use borrow.Author.Needs.{needs}
 use Rattle.edges.proofs.cards.fill.Statement.{statement}
 use Rattle.edges.proofs.cards.fill.Tie as tie
 
@@ -20,13 +21,10 @@ slice-aggregate-bytes : tie.Need-slice-aggregate-bytes Inv-loop μ-loop
 slice-aggregate-bytes c = simp length-take (omega arith)
 
 bytes-requires : tie.Need-bytes-requires Inv-loop μ-loop
-bytes-requires c κs = simp length-take (omega arith)
+bytes-requires c κs = search needs
 
-same-length : tie.Need-same-length Inv-loop μ-loop
-same-length c = omega arith
-
-returns : tie.Need-returns Inv-loop μ-loop
-returns c = omega arith
+unknown-requires : tie.Need-unknown-requires Inv-loop μ-loop
+unknown-requires c κs = search needs
 
 loop-holds : tie.Need-loop-holds Inv-loop μ-loop
 loop-holds c = omega arith
@@ -50,13 +48,10 @@ part-bytes-end : tie.Need-part-bytes-end Inv-loop μ-loop
 part-bytes-end c = omega arith
 
 bytes-requires-2 : tie.Need-bytes-requires-2 Inv-loop μ-loop
-bytes-requires-2 c κs = omega arith
+bytes-requires-2 c κs = search needs
 
-same-length-2 : tie.Need-same-length-2 Inv-loop μ-loop
-same-length-2 c = omega arith
-
-returns-2 : tie.Need-returns-2 Inv-loop μ-loop
-returns-2 c = omega arith
+unknown-requires-2 : tie.Need-unknown-requires-2 Inv-loop μ-loop
+unknown-requires-2 c κs = search needs
 
 add-a : tie.Need-add-a Inv-loop μ-loop
 add-a c = omega arith
@@ -67,11 +62,11 @@ loop-less c = omega arith
 loop-again : tie.Need-loop-again Inv-loop μ-loop
 loop-again c = omega arith
 
-same-length-3 : tie.Need-same-length-3 Inv-loop μ-loop
-same-length-3 c = omega arith
+same-length : tie.Need-same-length Inv-loop μ-loop
+same-length c = omega arith
 
-returns-3 : tie.Need-returns-3 Inv-loop μ-loop
-returns-3 c = omega arith
+returns : tie.Need-returns Inv-loop μ-loop
+returns c = omega arith
 
 pub fill-spec : {M : Type 1} → statement M
 fill-spec =
@@ -82,8 +77,7 @@ fill-spec =
     slice-relend-prefix-bytes
     slice-aggregate-bytes
     bytes-requires
-    same-length
-    returns
+    unknown-requires
     loop-holds
     add-loop
     add-bytes
@@ -92,10 +86,9 @@ fill-spec =
     part-bytes-start
     part-bytes-end
     bytes-requires-2
-    same-length-2
-    returns-2
+    unknown-requires-2
     add-a
     loop-less
     loop-again
-    same-length-3
-    returns-3)
+    same-length
+    returns)

@@ -1,6 +1,7 @@
--- `edges::lines::bytes` meets its contract. The buffer keeps its length.
+-- `edges::lines::bytes` meets its contract. The buffer keeps its length, and the token has two digits a byte.
 -- Assumes nothing.
 use mathlib.Core.Path.{_≡_, refl}
+use mathlib.Core.Logic.{inl, inr}
 use Prim.Native.Nat.{_≤_, _-_, _*_}
 use lib.ListN.{length}
 use native.Mathlib.Omega.{arith}
@@ -9,7 +10,7 @@ use Rattle.edges.proofs.lines.bytes.Statement.{statement}
 use Rattle.edges.proofs.lines.bytes.Tie as tie
 
 abbrev Inv-loop : tie.InvT-loop
-Inv-loop line k out₀ s n i₀ out i = (i ≤ n) × (length out ≡ length out₀) × (2 * n ≤ length s)
+Inv-loop line k out₀ s n i₀ out i = (i ≤ n) × (length out ≡ length out₀) × (2 * n ≤ length s) × (n ≤ length out₀)
 
 abbrev μ-loop : tie.MeasureT-loop
 μ-loop line k out₀ s n i₀ out i = n - i
@@ -17,14 +18,26 @@ abbrev μ-loop : tie.MeasureT-loop
 token-requires : tie.Need-token-requires Inv-loop μ-loop
 token-requires c κs = search needs
 
-size-requires : tie.Need-size-requires Inv-loop μ-loop
-size-requires c κs = search needs
+slice-aggregate-starts : tie.Need-slice-aggregate-starts Inv-loop μ-loop
+slice-aggregate-starts c = search needs
+
+starts-requires : tie.Need-starts-requires Inv-loop μ-loop
+starts-requires c κs = search needs
 
 returns : tie.Need-returns Inv-loop μ-loop
-returns c = search needs
+returns c = (inl (omega arith), refl)
+
+returns-2 : tie.Need-returns-2 Inv-loop μ-loop
+returns-2 c = (inr refl, refl)
+
+returns-3 : tie.Need-returns-3 Inv-loop μ-loop
+returns-3 c = (inr refl, refl)
+
+returns-4 : tie.Need-returns-4 Inv-loop μ-loop
+returns-4 c = (inr refl, refl)
 
 loop-holds : tie.Need-loop-holds Inv-loop μ-loop
-loop-holds c = (omega arith, refl, c .before .size .ensures .1 (c .if1 .left))
+loop-holds c = (omega arith, refl, omega arith, omega arith)
 
 mul-pair : tie.Need-mul-pair Inv-loop μ-loop
 mul-pair c = omega arith
@@ -44,20 +57,17 @@ shared-slice-read-pair-2 c = omega arith
 pair-requires : tie.Need-pair-requires Inv-loop μ-loop
 pair-requires c κs = search needs
 
-add-result : tie.Need-add-result Inv-loop μ-loop
-add-result c = omega arith
-
 same-length : tie.Need-same-length Inv-loop μ-loop
-same-length c = search needs
+same-length c = omega arith
 
-returns-2 : tie.Need-returns-2 Inv-loop μ-loop
-returns-2 c = search needs
+returns-5 : tie.Need-returns-5 Inv-loop μ-loop
+returns-5 c = (inr refl, omega arith)
 
 cast-out : tie.Need-cast-out Inv-loop μ-loop
 cast-out c = omega arith
 
 slice-write-out : tie.Need-slice-write-out Inv-loop μ-loop
-slice-write-out c = search needs
+slice-write-out c = omega arith
 
 add-i : tie.Need-add-i Inv-loop μ-loop
 add-i c = omega arith
@@ -69,10 +79,10 @@ loop-again : tie.Need-loop-again Inv-loop μ-loop
 loop-again c = search needs
 
 same-length-2 : tie.Need-same-length-2 Inv-loop μ-loop
-same-length-2 c = search needs
+same-length-2 c = omega arith
 
-returns-3 : tie.Need-returns-3 Inv-loop μ-loop
-returns-3 c = search needs
+returns-6 : tie.Need-returns-6 Inv-loop μ-loop
+returns-6 c = (inl (omega arith), omega arith)
 
 pub bytes-spec : {M : Type 1} → statement M
 bytes-spec =
@@ -81,8 +91,12 @@ bytes-spec =
     Inv-loop
     μ-loop
     token-requires
-    size-requires
+    slice-aggregate-starts
+    starts-requires
     returns
+    returns-2
+    returns-3
+    returns-4
     loop-holds
     mul-pair
     shared-slice-read-pair
@@ -90,13 +104,12 @@ bytes-spec =
     add-pair
     shared-slice-read-pair-2
     pair-requires
-    add-result
     same-length
-    returns-2
+    returns-5
     cast-out
     slice-write-out
     add-i
     loop-less
     loop-again
     same-length-2
-    returns-3)
+    returns-6)

@@ -36,10 +36,10 @@ until-requires-2 : tie.Need-until-requires-2 Inv-loop μ-loop
 until-requires-2 c κs = search needs
 
 sub-result : tie.Need-sub-result Inv-loop μ-loop
-sub-result c = omega arith
+sub-result c = omega (arith, c .until2 .ensures .0 (omega arith))
 
 part-result-start : tie.Need-part-result-start Inv-loop μ-loop
-part-result-start c = omega arith
+part-result-start c = omega (arith, c .until2 .ensures .0 (omega arith))
 
 part-result-end : tie.Need-part-result-end Inv-loop μ-loop
 part-result-end c = omega arith
