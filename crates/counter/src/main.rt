@@ -21,7 +21,7 @@ fn lines(ledger: &mut [u8], titles: &mut [u8], rules: &mut [u8], s: &[u8]) -> u6
 {
     let mut at: usize = 0;
     while at < s.len() {
-        let served = serve::next(&mut *ledger, &mut *titles, &mut *rules, &s[at..]);
+        let served = serve::next(ledger, titles, rules, &s[at..]);
         let Served::Answered { kind, answer, len } = served else {
             return serve::number(served);
         };

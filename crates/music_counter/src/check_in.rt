@@ -18,10 +18,10 @@ fn apply(ledger: &mut [u8], titles: &mut [u8], entry: EntryNumber, f1: u64)
     requires { ⌜ (24 * idOf (titleAt (now titles) (entry .0)) + 24 ≤ length (now ledger)) × (16 * entry .0 + 16 ≤ length (now titles)) ⌝ }
     ensures { λ _. ⌜ lent (now (ledger .exit)) (now (titles .exit)) [] ≡ effect (CheckIn entry f1) (lent (now (ledger .entry)) (now (titles .entry)) []) ⌝ }
 {
-    let content = half::content_id(card::title_half(&*titles, entry));
-    let facts = ledger::here_facts(ledger::state(&*ledger, content));
-    crate::set_permits(&mut *ledger, content, count::one_more(facts.permits));
-    crate::wipe_title(&mut *titles, entry, f1);
+    let content = half::content_id(card::title_half(titles, entry));
+    let facts = ledger::here_facts(ledger::state(ledger, content));
+    crate::set_permits(ledger, content, count::one_more(facts.permits));
+    crate::wipe_title(titles, entry, f1);
 }
 
 // Answers 0, or 5, 7, 8, 9, 10, 11, 15 or 16 with nothing changed.
@@ -34,10 +34,10 @@ pub fn check_in(
 ) -> u64
     ensures { λ r. ⌜ Answers (CheckIn entry f1) (lent (now (ledger .entry)) (now (titles .entry)) (now (rules .entry))) r (lent (now (ledger .exit)) (now (titles .exit)) (now (rules .entry))) ⌝ }
 {
-    let w = refusals::check_in::refusal(&*ledger, &*titles, rules, entry, f1);
+    let w = refusals::check_in::refusal(ledger, titles, rules, entry, f1);
     if w != 0 {
         return w;
     }
-    apply(&mut *ledger, &mut *titles, entry, f1);
+    apply(ledger, titles, entry, f1);
     0
 }

@@ -16,9 +16,9 @@ fn apply(ledger: &mut [u8], titles: &mut [u8], content: ContentId, entry: EntryN
     requires { ⌜ (24 * content .0 + 24 ≤ length (now ledger)) × (16 * entry .0 + 16 ≤ length (now titles)) ⌝ }
     ensures { λ _. ⌜ lent (now (ledger .exit)) (now (titles .exit)) [] ≡ effect (CheckOut content entry) (lent (now (ledger .entry)) (now (titles .entry)) []) ⌝ }
 {
-    let facts = ledger::here_facts(ledger::state(&*ledger, content));
-    crate::set_permits(&mut *ledger, content, count::one_less(facts.permits));
-    crate::write_title(&mut *titles, entry, facts.cci, facts.title_key, content);
+    let facts = ledger::here_facts(ledger::state(ledger, content));
+    crate::set_permits(ledger, content, count::one_less(facts.permits));
+    crate::write_title(titles, entry, facts.cci, facts.title_key, content);
 }
 
 // Answers 0, or 4, 5, 7, 8, 9, 10, 11 or 12 with nothing changed.
@@ -31,10 +31,10 @@ pub fn check_out(
 ) -> u64
     ensures { λ r. ⌜ Answers (CheckOut content entry) (lent (now (ledger .entry)) (now (titles .entry)) (now (rules .entry))) r (lent (now (ledger .exit)) (now (titles .exit)) (now (rules .entry))) ⌝ }
 {
-    let w = refusals::check_out::refusal(&*ledger, &*titles, rules, content, entry);
+    let w = refusals::check_out::refusal(ledger, titles, rules, content, entry);
     if w != 0 {
         return w;
     }
-    apply(&mut *ledger, &mut *titles, content, entry);
+    apply(ledger, titles, content, entry);
     0
 }

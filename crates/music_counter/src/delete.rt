@@ -27,13 +27,13 @@ fn apply(
     requires { ⌜ (16 * entry .0 + 16 ≤ length (now titles)) × (32 * entry .0 + 32 ≤ length (now rules)) ⌝ }
     ensures { λ _. ⌜ lent (now (ledger .exit)) (now (titles .exit)) (now (rules .exit)) ≡ effect (Delete entry fillers) (lent (now (ledger .entry)) (now (titles .entry)) (now (rules .entry))) ⌝ }
 {
-    let title = card::title_half(&*titles, entry);
+    let title = card::title_half(titles, entry);
     let content = half::content_id(title);
-    let kind = entry::kind(title, card::rule_half(&*rules, entry));
-    crate::wipe_title(&mut *titles, entry, fillers.f1);
+    let kind = entry::kind(title, card::rule_half(rules, entry));
+    crate::wipe_title(titles, entry, fillers.f1);
     if card::is_full(kind) {
-        crate::set_plain(&mut *ledger, content, row::GONE);
-        crate::wipe_rule(&mut *rules, entry, fillers);
+        crate::set_plain(ledger, content, row::GONE);
+        crate::wipe_rule(rules, entry, fillers);
     }
 }
 
@@ -47,10 +47,10 @@ pub fn delete(
 ) -> u64
     ensures { λ r. ⌜ Answers (Delete entry fillers) (lent (now (ledger .entry)) (now (titles .entry)) (now (rules .entry))) r (lent (now (ledger .exit)) (now (titles .exit)) (now (rules .exit))) ⌝ }
 {
-    let w = refusals::delete::refusal(&*ledger, &*titles, &*rules, entry, fillers);
+    let w = refusals::delete::refusal(ledger, titles, rules, entry, fillers);
     if w != 0 {
         return w;
     }
-    apply(&mut *ledger, &mut *titles, &mut *rules, entry, fillers);
+    apply(ledger, titles, rules, entry, fillers);
     0
 }

@@ -100,7 +100,7 @@ fn put_on_card(
     requires { ⌜ (24 * content .0 + 24 ≤ length (now ledger)) × (16 * entry .0 + 16 ≤ length (now titles)) × (32 * entry .0 + 32 ≤ length (now rules)) ⌝ }
     ensures { λ _. ⌜ lent (now (ledger .exit)) (now (titles .exit)) (now (rules .exit)) ≡ effect (Record content entry facts hash) (lent (now (ledger .entry)) (now (titles .entry)) (now (rules .entry))) ⌝ }
 {
-    set_plain(&mut *ledger, content, row::AWAY);
-    write_title(&mut *titles, entry, facts.cci, facts.title_key, content);
-    write_rule(&mut *rules, entry, facts, hash, content);
+    set_plain(ledger, content, row::AWAY);
+    write_title(titles, entry, facts.cci, facts.title_key, content);
+    write_rule(rules, entry, facts, hash, content);
 }

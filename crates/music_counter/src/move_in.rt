@@ -22,16 +22,8 @@ fn apply(
     requires { ⌜ (24 * content .0 + 24 ≤ length (now ledger)) × (16 * entry .0 + 16 ≤ length (now titles)) × (32 * entry .0 + 32 ≤ length (now rules)) ⌝ }
     ensures { λ _. ⌜ lent (now (ledger .exit)) (now (titles .exit)) (now (rules .exit)) ≡ effect (MoveIn content entry hash) (lent (now (ledger .entry)) (now (titles .entry)) (now (rules .entry))) ⌝ }
 {
-    let facts = count::after_move(ledger::here_facts(ledger::state(&*ledger, content)));
-    crate::put_on_card(
-        &mut *ledger,
-        &mut *titles,
-        &mut *rules,
-        content,
-        entry,
-        facts,
-        hash,
-    );
+    let facts = count::after_move(ledger::here_facts(ledger::state(ledger, content)));
+    crate::put_on_card(ledger, titles, rules, content, entry, facts, hash);
 }
 
 // Answers 0, or 4, 5, 7, 8, 9, 10, 11, 12 or 14 with nothing changed.
@@ -45,17 +37,10 @@ pub fn move_in(
 ) -> u64
     ensures { λ r. ⌜ Answers (MoveIn content entry hash) (lent (now (ledger .entry)) (now (titles .entry)) (now (rules .entry))) r (lent (now (ledger .exit)) (now (titles .exit)) (now (rules .exit))) ⌝ }
 {
-    let w = refusals::move_in::refusal(&*ledger, &*titles, &*rules, content, entry);
+    let w = refusals::move_in::refusal(ledger, titles, rules, content, entry);
     if w != 0 {
         return w;
     }
-    apply(
-        &mut *ledger,
-        &mut *titles,
-        &mut *rules,
-        content,
-        entry,
-        hash,
-    );
+    apply(ledger, titles, rules, content, entry, hash);
     0
 }

@@ -25,12 +25,12 @@ fn apply(
     requires { ⌜ (24 * idOf (titleAt (now titles) (entry .0)) + 24 ≤ length (now ledger)) × (16 * entry .0 + 16 ≤ length (now titles)) × (32 * entry .0 + 32 ≤ length (now rules)) ⌝ }
     ensures { λ _. ⌜ lent (now (ledger .exit)) (now (titles .exit)) (now (rules .exit)) ≡ effect (MoveOut entry 0 fillers) (lent (now (ledger .entry)) (now (titles .entry)) (now (rules .entry))) ⌝ }
 {
-    let title = card::title_half(&*titles, entry);
+    let title = card::title_half(titles, entry);
     let content = half::content_id(title);
-    let facts = entry::facts(title, card::rule_half(&*rules, entry));
-    crate::set_here(&mut *ledger, content, count::after_move(facts));
-    crate::wipe_title(&mut *titles, entry, fillers.f1);
-    crate::wipe_rule(&mut *rules, entry, fillers);
+    let facts = entry::facts(title, card::rule_half(rules, entry));
+    crate::set_here(ledger, content, count::after_move(facts));
+    crate::wipe_title(titles, entry, fillers.f1);
+    crate::wipe_rule(rules, entry, fillers);
 }
 
 // Answers 0, or 5, 7, 8, 9, 10, 11, 12, 13 or 16 with nothing changed.
@@ -44,10 +44,10 @@ pub fn move_out(
 ) -> u64
     ensures { λ r. ⌜ Answers (MoveOut entry hash fillers) (lent (now (ledger .entry)) (now (titles .entry)) (now (rules .entry))) r (lent (now (ledger .exit)) (now (titles .exit)) (now (rules .exit))) ⌝ }
 {
-    let w = refusals::move_out::refusal(&*ledger, &*titles, &*rules, entry, hash, fillers);
+    let w = refusals::move_out::refusal(ledger, titles, rules, entry, hash, fillers);
     if w != 0 {
         return w;
     }
-    apply(&mut *ledger, &mut *titles, &mut *rules, entry, fillers);
+    apply(ledger, titles, rules, entry, fillers);
     0
 }

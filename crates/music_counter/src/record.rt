@@ -18,18 +18,10 @@ pub fn record(
 ) -> u64
     ensures { λ r. ⌜ Answers (Record content entry facts hash) (lent (now (ledger .entry)) (now (titles .entry)) (now (rules .entry))) r (lent (now (ledger .exit)) (now (titles .exit)) (now (rules .exit))) ⌝ }
 {
-    let w = refusals::record::refusal(&*ledger, &*titles, &*rules, content, entry, facts);
+    let w = refusals::record::refusal(ledger, titles, rules, content, entry, facts);
     if w != 0 {
         return w;
     }
-    crate::put_on_card(
-        &mut *ledger,
-        &mut *titles,
-        &mut *rules,
-        content,
-        entry,
-        facts,
-        hash,
-    );
+    crate::put_on_card(ledger, titles, rules, content, entry, facts, hash);
     0
 }

@@ -8,10 +8,10 @@ use formats::facts::Facts;
 pub fn register(ledger: &mut [u8], content: ContentId, facts: Facts) -> u64
     ensures { λ r. ⌜ AnswersByLedger (Register content facts) (now (ledger .entry)) r (now (ledger .exit)) ⌝ }
 {
-    let w = refusals::register::refusal(&*ledger, content, facts);
+    let w = refusals::register::refusal(ledger, content, facts);
     if w != 0 {
         return w;
     }
-    crate::set_here(&mut *ledger, content, facts);
+    crate::set_here(ledger, content, facts);
     0
 }

@@ -27,59 +27,29 @@ pub fn perform(ledger: &mut [u8], titles: &mut [u8], rules: &mut [u8], request: 
     ensures { λ r. ⌜ Answers request (lent (now (ledger .entry)) (now (titles .entry)) (now (rules .entry))) r (lent (now (ledger .exit)) (now (titles .exit)) (now (rules .exit))) ⌝ }
 {
     match request {
-        Request::Register { content, facts } => register::register(&mut *ledger, content, facts),
+        Request::Register { content, facts } => register::register(ledger, content, facts),
         Request::Record {
             content,
             entry,
             facts,
             hash,
-        } => {
-            record::record(
-                &mut *ledger,
-                &mut *titles,
-                &mut *rules,
-                content,
-                entry,
-                facts,
-                hash,
-            )
-        }
+        } => { record::record(ledger, titles, rules, content, entry, facts, hash) }
         Request::CheckOut { content, entry } => {
-            check_out::check_out(&mut *ledger, &mut *titles, &*rules, content, entry)
+            check_out::check_out(ledger, titles, rules, content, entry)
         }
-        Request::CheckIn { entry, f1 } => {
-            check_in::check_in(&mut *ledger, &mut *titles, &*rules, entry, f1)
-        }
+        Request::CheckIn { entry, f1 } => { check_in::check_in(ledger, titles, rules, entry, f1) }
         Request::MoveOut {
             entry,
             hash,
             fillers,
-        } => {
-            move_out::move_out(
-                &mut *ledger,
-                &mut *titles,
-                &mut *rules,
-                entry,
-                hash,
-                fillers,
-            )
-        }
+        } => { move_out::move_out(ledger, titles, rules, entry, hash, fillers) }
         Request::MoveIn {
             content,
             entry,
             hash,
-        } => {
-            move_in::move_in(
-                &mut *ledger,
-                &mut *titles,
-                &mut *rules,
-                content,
-                entry,
-                hash,
-            )
-        }
+        } => { move_in::move_in(ledger, titles, rules, content, entry, hash) }
         Request::Delete { entry, fillers } => {
-            delete::delete(&mut *ledger, &mut *titles, &mut *rules, entry, fillers)
+            delete::delete(ledger, titles, rules, entry, fillers)
         }
     }
 }
@@ -104,7 +74,7 @@ pub fn next(ledger: &mut [u8], titles: &mut [u8], rules: &mut [u8], s: &[u8]) ->
         return Served::Refused(stopped(found));
     };
     let kind = request::kind(request);
-    let answer = perform(&mut *ledger, &mut *titles, &mut *rules, request);
+    let answer = perform(ledger, titles, rules, request);
     Served::Answered { kind, answer, len }
 }
 
@@ -145,7 +115,7 @@ pub fn all(ledger: &mut [u8], titles: &mut [u8], rules: &mut [u8], s: &[u8]) -> 
 {
     let mut at: usize = 0;
     while at < s.len() {
-        let served = next(&mut *ledger, &mut *titles, &mut *rules, &s[at..]);
+        let served = next(ledger, titles, rules, &s[at..]);
         let Served::Answered {
             kind: _,
             answer: _,

@@ -75,7 +75,7 @@ pub fn format_card(titles: &mut [u8], rules: &mut [u8], application: u16) -> u64
     if rules.len() != 32000 {
         return refusal::RULES;
     }
-    fresh_table(&mut *titles, 0x4131, 0x10, 0, 16, 0x01);
-    fresh_table(&mut *rules, 0x4D31, 0x11, application as u64, 32, 0x02);
+    fresh_table(titles, 0x4131, 0x10, 0, 16, 0x01);
+    fresh_table(rules, 0x4D31, 0x11, application as u64, 32, 0x02);
     0
 }

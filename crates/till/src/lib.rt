@@ -29,7 +29,7 @@ pub extern "C" fn counter_format_ledger(ledger: &mut [u8], rows: u64, applicatio
     ensures { λ r. ⌜ r ≡ ledgerFormatting (now (ledger .entry)) rows ⌝ }
     ensures { λ _. ⌜ now (ledger .exit) ≡ formattedLedger (now (ledger .entry)) rows application ⌝ }
 {
-    format::format_ledger(&mut *ledger, rows, application)
+    format::format_ledger(ledger, rows, application)
 }
 
 // Answers 0, or 8 or 9 with nothing changed in either table.
@@ -39,7 +39,7 @@ pub extern "C" fn counter_format_card(titles: &mut [u8], rules: &mut [u8], appli
     ensures { λ _. ⌜ now (titles .exit) ≡ formattedTitles (now (titles .entry)) (now (rules .entry)) ⌝ }
     ensures { λ _. ⌜ now (rules .exit) ≡ formattedRules (now (titles .entry)) (now (rules .entry)) application ⌝ }
 {
-    format::format_card(&mut *titles, &mut *rules, application)
+    format::format_card(titles, rules, application)
 }
 
 // Answers 0, or 4, 6, 7 or 11 with nothing changed.
@@ -64,7 +64,7 @@ pub extern "C" fn counter_register(
         title_key,
         sti_key,
     };
-    register::register(&mut *ledger, ContentId(content), facts)
+    register::register(ledger, ContentId(content), facts)
 }
 
 // Answers 0, or 4, 5, 6, 7, 8, 9, 10 or 11 with nothing changed.
@@ -94,9 +94,9 @@ pub extern "C" fn counter_record(
         sti_key,
     };
     record::record(
-        &mut *ledger,
-        &mut *titles,
-        &mut *rules,
+        ledger,
+        titles,
+        rules,
         ContentId(content),
         EntryNumber(entry),
         facts,
@@ -116,8 +116,8 @@ pub extern "C" fn counter_check_out(
     ensures { λ r. ⌜ Answers (CheckOut (title content) (place entry)) (lent (now (ledger .entry)) (now (titles .entry)) (now (rules .entry))) r (lent (now (ledger .exit)) (now (titles .exit)) (now (rules .entry))) ⌝ }
 {
     check_out::check_out(
-        &mut *ledger,
-        &mut *titles,
+        ledger,
+        titles,
         rules,
         ContentId(content),
         EntryNumber(entry),
@@ -135,7 +135,7 @@ pub extern "C" fn counter_check_in(
 ) -> u64
     ensures { λ r. ⌜ Answers (CheckIn (place entry) f1) (lent (now (ledger .entry)) (now (titles .entry)) (now (rules .entry))) r (lent (now (ledger .exit)) (now (titles .exit)) (now (rules .entry))) ⌝ }
 {
-    check_in::check_in(&mut *ledger, &mut *titles, rules, EntryNumber(entry), f1)
+    check_in::check_in(ledger, titles, rules, EntryNumber(entry), f1)
 }
 
 // Answers 0, or 5, 7, 8, 9, 10, 11, 12, 13 or 16 with nothing changed.
@@ -154,14 +154,7 @@ pub extern "C" fn counter_move_out(
     ensures { λ r. ⌜ Answers (MoveOut (place entry) hash (fillers f1 f2 f3 f4)) (lent (now (ledger .entry)) (now (titles .entry)) (now (rules .entry))) r (lent (now (ledger .exit)) (now (titles .exit)) (now (rules .exit))) ⌝ }
 {
     let fillers = Fillers { f1, f2, f3, f4 };
-    move_out::move_out(
-        &mut *ledger,
-        &mut *titles,
-        &mut *rules,
-        EntryNumber(entry),
-        hash,
-        fillers,
-    )
+    move_out::move_out(ledger, titles, rules, EntryNumber(entry), hash, fillers)
 }
 
 // Answers 0, or 4, 5, 7, 8, 9, 10, 11, 12 or 14 with nothing changed.
@@ -177,9 +170,9 @@ pub extern "C" fn counter_move_in(
     ensures { λ r. ⌜ Answers (MoveIn (title content) (place entry) hash) (lent (now (ledger .entry)) (now (titles .entry)) (now (rules .entry))) r (lent (now (ledger .exit)) (now (titles .exit)) (now (rules .exit))) ⌝ }
 {
     move_in::move_in(
-        &mut *ledger,
-        &mut *titles,
-        &mut *rules,
+        ledger,
+        titles,
+        rules,
         ContentId(content),
         EntryNumber(entry),
         hash,
@@ -201,13 +194,7 @@ pub extern "C" fn counter_delete(
     ensures { λ r. ⌜ Answers (Delete (place entry) (fillers f1 f2 f3 f4)) (lent (now (ledger .entry)) (now (titles .entry)) (now (rules .entry))) r (lent (now (ledger .exit)) (now (titles .exit)) (now (rules .exit))) ⌝ }
 {
     let fillers = Fillers { f1, f2, f3, f4 };
-    delete::delete(
-        &mut *ledger,
-        &mut *titles,
-        &mut *rules,
-        EntryNumber(entry),
-        fillers,
-    )
+    delete::delete(ledger, titles, rules, EntryNumber(entry), fillers)
 }
 
 // Answers 0, or 4, 8 or 9 with `copies` as it was.
