@@ -10,7 +10,6 @@ ghost use Rattle.calls.specs.Effect.{effect};
 ghost use Rattle.music_counter.specs.Answer.{Answers};
 use calls::count;
 use formats::facts::EntryNumber;
-use formats::half;
 use tables::card;
 use tables::ledger;
 
@@ -18,7 +17,7 @@ fn apply(ledger: &mut [u8], titles: &mut [u8], entry: EntryNumber, f1: u64)
     requires { ⌜ (24 * idOf (titleAt (now titles) (entry .0)) + 24 ≤ length (now ledger)) × (16 * entry .0 + 16 ≤ length (now titles)) ⌝ }
     ensures { λ _. ⌜ lent (now (ledger .exit)) (now (titles .exit)) [] ≡ effect (CheckIn entry f1) (lent (now (ledger .entry)) (now (titles .entry)) []) ⌝ }
 {
-    let content = half::content_id(card::title_half(titles, entry));
+    let content = card::content(titles, entry);
     let facts = ledger::here_facts(ledger::state(ledger, content));
     crate::set_permits(ledger, content, count::one_more(facts.permits));
     crate::wipe_title(titles, entry, f1);

@@ -9,10 +9,8 @@ ghost use Rattle.formats.specs.Entry.{kindOf};
 ghost use Rattle.calls.specs.Buffers.{lent, titleAt, ruleAt, isFull};
 ghost use Rattle.calls.specs.Effect.{effect};
 ghost use Rattle.music_counter.specs.Answer.{Answers};
-use formats::entry;
 use formats::facts::EntryNumber;
 use formats::facts::Fillers;
-use formats::half;
 use formats::row;
 use tables::card;
 
@@ -27,9 +25,8 @@ fn apply(
     requires { ⌜ (16 * entry .0 + 16 ≤ length (now titles)) × (32 * entry .0 + 32 ≤ length (now rules)) ⌝ }
     ensures { λ _. ⌜ lent (now (ledger .exit)) (now (titles .exit)) (now (rules .exit)) ≡ effect (Delete entry fillers) (lent (now (ledger .entry)) (now (titles .entry)) (now (rules .entry))) ⌝ }
 {
-    let title = card::title_half(titles, entry);
-    let content = half::content_id(title);
-    let kind = entry::kind(title, card::rule_half(rules, entry));
+    let content = card::content(titles, entry);
+    let kind = card::kind(titles, rules, entry);
     crate::wipe_title(titles, entry, fillers.f1);
     if card::is_full(kind) {
         crate::set_plain(ledger, content, row::GONE);

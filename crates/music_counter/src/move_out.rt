@@ -8,10 +8,8 @@ ghost use Rattle.calls.specs.Buffers.{lent, titleAt};
 ghost use Rattle.calls.specs.Effect.{effect};
 ghost use Rattle.music_counter.specs.Answer.{Answers};
 use calls::count;
-use formats::entry;
 use formats::facts::EntryNumber;
 use formats::facts::Fillers;
-use formats::half;
 use tables::card;
 
 // The effect, whatever the hash was.
@@ -25,9 +23,8 @@ fn apply(
     requires { ⌜ (24 * idOf (titleAt (now titles) (entry .0)) + 24 ≤ length (now ledger)) × (16 * entry .0 + 16 ≤ length (now titles)) × (32 * entry .0 + 32 ≤ length (now rules)) ⌝ }
     ensures { λ _. ⌜ lent (now (ledger .exit)) (now (titles .exit)) (now (rules .exit)) ≡ effect (MoveOut entry 0 fillers) (lent (now (ledger .entry)) (now (titles .entry)) (now (rules .entry))) ⌝ }
 {
-    let title = card::title_half(titles, entry);
-    let content = half::content_id(title);
-    let facts = entry::facts(title, card::rule_half(rules, entry));
+    let content = card::content(titles, entry);
+    let facts = card::facts(titles, rules, entry);
     crate::set_here(ledger, content, count::after_move(facts));
     crate::wipe_title(titles, entry, fillers.f1);
     crate::wipe_rule(rules, entry, fillers);

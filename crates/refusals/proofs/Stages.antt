@@ -1,19 +1,15 @@
 -- Refusals in stages, as the calls test them.
 -- Assumes nothing.
 use Prim.Native.Nat.{ℕ}
-use mathlib.Core.Path.{_≡_, refl, sym, ap, ap₂, _∙_}
+use mathlib.Core.Path.{_≡_, refl, sym, ap, _∙_}
 use mathlib.Core.Logic.{_≢_}
 use mathlib.Core.List.{List, _++_}
 use mathlib.Core.Bool.{Bool, true, false, not, _&&_, _||_}
 use lib.Dec.{eqb}
 use borrow.Author.Tests.{eq-eqb, ne-eqb}
-use Rattle.formats.specs.Half.{idOf}
-use Rattle.formats.specs.Entry.{kindOf}
-use Rattle.formats.specs.declared.entry.EntryKind.{EntryKind}
-use Rattle.formats.specs.declared.row.RowState.{RowState}
-use Rattle.calls.specs.Buffers.{Buffers, stateIn}
+use Rattle.calls.specs.Buffers.{Buffers}
 use Rattle.calls.specs.Refusal.{Condition, first}
-use Rattle.calls.specs.Conditions.{allHeadConditions, leavesKey}
+use Rattle.calls.specs.Conditions.{allHeadConditions}
 use Rattle.calls.proofs.Refusals.{first-stage, next-stage}
 
 -- a test in code that says what a definition's test says; `!` of it in code likewise
@@ -30,20 +26,6 @@ module _ (b : Buffers) (rest : List Condition) {w : ℕ} (e : w ≡ first (allHe
 
   pub past-heads : {n : ℕ} → w ≡ 0 → n ≡ first rest → n ≡ first (allHeadConditions b ++ rest)
   past-heads zero q = next-stage (allHeadConditions b) rest refl (sym e ∙ zero) q
-
--- WHAT CODE HAS SEEN of the buffers is what the conditions speak of
-
--- the kind of an entry, by its halves
-pub kind-seen : {k : EntryKind} {t r t′ r′ : List ℕ} → k ≡ kindOf t r → t ≡ t′ → r ≡ r′ → k ≡ kindOf t′ r′
-kind-seen e p q = e ∙ ap₂ kindOf p q
-
--- the row of an entry's title
-pub row-seen : (l : List ℕ) {s : RowState} {c : ℕ} {t t′ : List ℕ} → s ≡ stateIn l c → c ≡ idOf t → t ≡ t′ → s ≡ stateIn l (idOf t′)
-row-seen l e p q = e ∙ ap (stateIn l) (p ∙ ap idOf q)
-
--- a filler that leaves a half's key
-pub leaves-seen : (f : ℕ) {x : Bool} {h h′ : List ℕ} → x ≡ leavesKey f h → h ≡ h′ → x ≡ leavesKey f h′
-leaves-seen f e p = e ∙ ap (leavesKey f) p
 
 -- a number that is tested for a value
 module _ {x y n : ℕ} (e : x ≡ y) where

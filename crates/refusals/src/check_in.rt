@@ -6,9 +6,7 @@ ghost use Rattle.calls.specs.Refusal.{first};
 ghost use Rattle.calls.specs.Conditions.{stateConditions};
 ghost use Rattle.calls.specs.Perform.{refusal};
 use calls::argument;
-use formats::entry;
 use formats::facts::EntryNumber;
-use formats::half;
 use formats::refusal;
 use tables::card;
 use tables::heads;
@@ -17,12 +15,11 @@ use tables::ledger;
 fn state(ledger: &[u8], titles: &[u8], rules: &[u8], entry: EntryNumber, f1: u64) -> u64
     ensures { λ r. ⌜ r ≡ first (stateConditions (CheckIn entry f1) (lent (now (ledger .entry)) (now (titles .entry)) (now (rules .entry)))) ⌝ }
 {
-    let title = card::title_half(titles, entry);
-    let kind = entry::kind(title, card::rule_half(rules, entry));
+    let kind = card::kind(titles, rules, entry);
     if !card::is_copy(kind) {
         return refusal::KIND_OF_ENTRY;
     }
-    let row = ledger::state(ledger, half::content_id(title));
+    let row = ledger::state(ledger, card::content(titles, entry));
     if !ledger::is_here(row) {
         return refusal::STATE_OF_ROW;
     }
@@ -30,7 +27,7 @@ fn state(ledger: &[u8], titles: &[u8], rules: &[u8], entry: EntryNumber, f1: u64
     if facts.permits == 14 {
         return refusal::PERMITS_FULL;
     }
-    if card::leaves_key(f1, title) {
+    if card::leaves_title_key(titles, entry, f1) {
         return refusal::FILLER;
     }
     0

@@ -6,10 +6,8 @@ ghost use Rattle.calls.specs.Refusal.{first};
 ghost use Rattle.calls.specs.Conditions.{stateConditions};
 ghost use Rattle.calls.specs.Perform.{refusal};
 use calls::argument;
-use formats::entry;
 use formats::facts::EntryNumber;
 use formats::facts::Fillers;
-use formats::half;
 use formats::refusal;
 use tables::card;
 use tables::heads;
@@ -19,25 +17,23 @@ use tables::ledger;
 fn state(ledger: &[u8], titles: &[u8], rules: &[u8], entry: EntryNumber, fillers: Fillers) -> u64
     ensures { λ r. ⌜ r ≡ first (stateConditions (Delete entry fillers) (lent (now (ledger .entry)) (now (titles .entry)) (now (rules .entry)))) ⌝ }
 {
-    let title = card::title_half(titles, entry);
-    let rule = card::rule_half(rules, entry);
-    let kind = entry::kind(title, rule);
+    let kind = card::kind(titles, rules, entry);
     if !card::is_full(kind) {
         if !card::is_copy(kind) {
             return refusal::KIND_OF_ENTRY;
         }
-        if card::leaves_key(fillers.f1, title) {
+        if card::leaves_title_key(titles, entry, fillers.f1) {
             return refusal::FILLER;
         }
         return 0;
     }
-    if !ledger::is_away(ledger::state(ledger, half::content_id(title))) {
+    if !ledger::is_away(ledger::state(ledger, card::content(titles, entry))) {
         return refusal::STATE_OF_ROW;
     }
-    if card::leaves_key(fillers.f1, title) {
+    if card::leaves_title_key(titles, entry, fillers.f1) {
         return refusal::FILLER;
     }
-    if card::leaves_key(fillers.f2, rule) {
+    if card::leaves_sti_key(rules, entry, fillers.f2) {
         return refusal::FILLER;
     }
     0

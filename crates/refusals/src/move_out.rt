@@ -7,12 +7,9 @@ ghost use Rattle.calls.specs.Conditions.{stateConditions};
 ghost use Rattle.calls.specs.Perform.{refusal};
 use calls::argument;
 use calls::count;
-use formats::entry;
 use formats::facts::EntryNumber;
 use formats::facts::Fillers;
-use formats::half;
 use formats::refusal;
-use formats::rule;
 use tables::card;
 use tables::heads;
 use tables::ledger;
@@ -27,24 +24,22 @@ fn state(
 ) -> u64
     ensures { λ r. ⌜ r ≡ first (stateConditions (MoveOut entry hash fillers) (lent (now (ledger .entry)) (now (titles .entry)) (now (rules .entry)))) ⌝ }
 {
-    let title = card::title_half(titles, entry);
-    let rule = card::rule_half(rules, entry);
-    if !card::is_full(entry::kind(title, rule)) {
+    if !card::is_full(card::kind(titles, rules, entry)) {
         return refusal::KIND_OF_ENTRY;
     }
-    if !ledger::is_away(ledger::state(ledger, half::content_id(title))) {
+    if !ledger::is_away(ledger::state(ledger, card::content(titles, entry))) {
         return refusal::STATE_OF_ROW;
     }
-    if count::may_not_move(entry::facts(title, rule)) {
+    if count::may_not_move(card::facts(titles, rules, entry)) {
         return refusal::NOTHING_LEFT;
     }
-    if hash != rule::hash(rule) {
+    if hash != card::hash(rules, entry) {
         return refusal::HASH;
     }
-    if card::leaves_key(fillers.f1, title) {
+    if card::leaves_title_key(titles, entry, fillers.f1) {
         return refusal::FILLER;
     }
-    if card::leaves_key(fillers.f2, rule) {
+    if card::leaves_sti_key(rules, entry, fillers.f2) {
         return refusal::FILLER;
     }
     0

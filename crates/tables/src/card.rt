@@ -1,10 +1,17 @@
 // The entries of a card: an entry's two halves, as the parts of the tables that they occupy, and what the entry is.
 ghost use mathlib.Core.Path.{_≡_};
+ghost use Rattle.formats.specs.Half.{idOf};
+ghost use Rattle.formats.specs.Rule.{hashOf};
+ghost use Rattle.formats.specs.Entry.{kindOf, entryFacts};
 ghost use Rattle.calls.specs.Buffers.{titleAt, ruleAt, isFree, isCopy, isFull};
 ghost use Rattle.calls.specs.Conditions.{leavesKey};
+use formats::entry;
 use formats::entry::EntryKind;
+use formats::facts::ContentId;
 use formats::facts::EntryNumber;
+use formats::facts::Facts;
 use formats::half;
+use formats::rule;
 use formats::table;
 
 // The title half of an entry. A table that ends before it has nothing there.
@@ -29,6 +36,34 @@ pub fn rule_half(rules: &[u8], entry: EntryNumber) -> &[u8]
         return &rules[size..];
     }
     table::part(rules, 32 * (j as usize), 32)
+}
+
+// What an entry is.
+pub fn kind(titles: &[u8], rules: &[u8], entry: EntryNumber) -> EntryKind
+    ensures { λ r. ⌜ r ≡ kindOf (titleAt (now (titles .entry)) (entry .0)) (ruleAt (now (rules .entry)) (entry .0)) ⌝ }
+{
+    entry::kind(title_half(titles, entry), rule_half(rules, entry))
+}
+
+// The content ID in an entry's title half.
+pub fn content(titles: &[u8], entry: EntryNumber) -> ContentId
+    ensures { λ r. ⌜ r .0 ≡ idOf (titleAt (now (titles .entry)) (entry .0)) ⌝ }
+{
+    half::content_id(title_half(titles, entry))
+}
+
+// The facts of an entry, which mean something where it is full.
+pub fn facts(titles: &[u8], rules: &[u8], entry: EntryNumber) -> Facts
+    ensures { λ r. ⌜ r ≡ entryFacts (titleAt (now (titles .entry)) (entry .0)) (ruleAt (now (rules .entry)) (entry .0)) ⌝ }
+{
+    entry::facts(title_half(titles, entry), rule_half(rules, entry))
+}
+
+// The C_HASH in an entry's rule half.
+pub fn hash(rules: &[u8], entry: EntryNumber) -> u64
+    ensures { λ r. ⌜ r ≡ hashOf (ruleAt (now (rules .entry)) (entry .0)) ⌝ }
+{
+    rule::hash(rule_half(rules, entry))
 }
 
 pub fn is_free(kind: EntryKind) -> bool
@@ -65,8 +100,21 @@ pub fn is_full(kind: EntryKind) -> bool
 }
 
 // Whether a filler would leave the key of this half as it is.
-pub fn leaves_key(filler: u64, half: &[u8]) -> bool
+fn leaves_key(filler: u64, half: &[u8]) -> bool
     ensures { λ r. ⌜ r ≡ leavesKey filler (now (half .entry)) ⌝ }
 {
     filler % 0x100_0000_0000_0000 == half::key(half)
+}
+
+// Whether it would leave an entry's title key, or its STI key.
+pub fn leaves_title_key(titles: &[u8], entry: EntryNumber, filler: u64) -> bool
+    ensures { λ r. ⌜ r ≡ leavesKey filler (titleAt (now (titles .entry)) (entry .0)) ⌝ }
+{
+    leaves_key(filler, title_half(titles, entry))
+}
+
+pub fn leaves_sti_key(rules: &[u8], entry: EntryNumber, filler: u64) -> bool
+    ensures { λ r. ⌜ r ≡ leavesKey filler (ruleAt (now (rules .entry)) (entry .0)) ⌝ }
+{
+    leaves_key(filler, rule_half(rules, entry))
 }

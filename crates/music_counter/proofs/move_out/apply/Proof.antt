@@ -1,22 +1,14 @@
 -- `music_counter::move_out::apply` meets its contract.
 -- Assumes nothing.
 use borrow.Author.Needs.{needs}
-use mathlib.Core.Path.{ap, ap₂, _∙_}
-use Rattle.formats.specs.Half.{idOf}
-use Rattle.formats.specs.Entry.{entryFacts}
+use mathlib.Core.Path.{ap, _∙_}
 use Rattle.calls.specs.Effect.{afterMove}
 use Rattle.music_counter.proofs.Effects.{moved-out}
 use Rattle.music_counter.proofs.move_out.apply.Statement.{statement}
 use Rattle.music_counter.proofs.move_out.apply.Tie as tie
 
-title-half-requires : tie.Need-title-half-requires
-title-half-requires c κs = search needs
-
-content-id-requires : tie.Need-content-id-requires
-content-id-requires c κs = search needs
-
-rule-half-requires : tie.Need-rule-half-requires
-rule-half-requires c κs = search needs
+content-requires : tie.Need-content-requires
+content-requires c κs = search needs
 
 facts-requires : tie.Need-facts-requires
 facts-requires c κs = search needs
@@ -25,15 +17,13 @@ after-move-requires : tie.Need-after-move-requires
 after-move-requires c κs = search needs
 
 set-here-requires : tie.Need-set-here-requires
-set-here-requires c κs =
-    rw (c .before .before .before .before .before .content-id .ensures ∙ ap idOf (c .before .before .before .before .before .before .title-half .ensures)) (c .before .before .before .before .before .before .before .before .before .before .before .pre .0)
+set-here-requires c κs = search needs
 
 wipe-title-requires : tie.Need-wipe-title-requires
 wipe-title-requires c κs = search needs
 
 wipe-rule-requires : tie.Need-wipe-rule-requires
-wipe-rule-requires c κs =
-    c .before .before .before .before .before .before .before .before .before .before .before .before .before .before .before .before .before .before .before .pre .2
+wipe-rule-requires c κs = search needs
 
 same-length : tie.Need-same-length
 same-length c = search needs
@@ -46,20 +36,23 @@ same-length-3 c = search needs
 
 returns : tie.Need-returns
 returns c =
-    let a = c .before .before .before .before .before .before .before .before .before .before .before .before .before .before .before .before .before .before .before .before .before .before .args in
-    moved-out (a .ledger .now) (a .titles .now) (a .rules .now) (a .entry) 0 (a .fillers) (c .before .before .before .before .before .before .before .before .before .before .before .before .before .before .before .before .content-id .result .0) (c .before .before .before .before .before .before .before .before .before .before .before .before .before .before .before .before .content-id .ensures ∙ ap idOf (c .before .before .before .before .before .before .before .before .before .before .before .before .before .before .before .before .before .title-half .ensures))
-    (c .before .before .before .before .before .before .before .before .before .before .before .after-move .ensures ∙ ap afterMove (c .before .before .before .before .before .before .before .before .before .before .before .before .before .facts .ensures ∙ ap₂ entryFacts (c .before .before .before .before .before .before .before .before .before .before .before .before .before .before .before .before .before .title-half .ensures) (c .before .before .before .before .before .before .before .before .before .before .before .before .before .before .rule-half .ensures)))
-    (c .before .before .before .before .before .before .before .before .before .before .set-here .ensures)
-    (c .before .before .before .before .before .before .wipe-title .ensures)
-    (c .before .before .wipe-rule .ensures)
+    let at-wipe-rule = c .before .before in
+    let at-wipe-title = at-wipe-rule .before .before .before .before in
+    let at-set-here = at-wipe-title .before .before .before .before in
+    let at-after-move = at-set-here .before in
+    let at-facts = at-after-move .before .before in
+    let at-content = at-facts .before .before .before in
+    let at-start = at-content .before .before .before .before .before in
+    let a = at-start .args in
+    moved-out (a .ledger .now) (a .titles .now) (a .rules .now) (a .entry) 0 (a .fillers) (at-content .content .result .0) (at-content .content .ensures)
+    (at-after-move .after-move .ensures ∙ ap afterMove (at-facts .facts .ensures))
+    (at-set-here .set-here .ensures) (at-wipe-title .wipe-title .ensures) (at-wipe-rule .wipe-rule .ensures)
 
 pub apply-spec : {M : Type 1} → statement M
 apply-spec =
     tie.close
     (tie.spec
-    title-half-requires
-    content-id-requires
-    rule-half-requires
+    content-requires
     facts-requires
     after-move-requires
     set-here-requires

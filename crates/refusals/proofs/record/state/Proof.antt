@@ -4,15 +4,9 @@ use borrow.Author.Needs.{needs}
 use mathlib.Core.Path.{ap, _∙_}
 use Rattle.calls.specs.Buffers.{isFree, isEmpty}
 use Rattle.calls.proofs.Refusals.{hit, skip, end}
-use Rattle.refusals.proofs.Stages.{kind-seen, denied}
+use Rattle.refusals.proofs.Stages.{denied}
 use Rattle.refusals.proofs.record.state.Statement.{statement}
 use Rattle.refusals.proofs.record.state.Tie as tie
-
-title-half-requires : tie.Need-title-half-requires
-title-half-requires c κs = search needs
-
-rule-half-requires : tie.Need-rule-half-requires
-rule-half-requires c κs = search needs
 
 kind-requires : tie.Need-kind-requires
 kind-requires c κs = search needs
@@ -22,7 +16,7 @@ is-free-requires c κs = search needs
 
 returns : tie.Need-returns
 returns c =
-    hit 10 _ _ (denied (c .before .is-free .ensures ∙ ap isFree (kind-seen (c .before .before .kind .ensures) (c .before .before .before .before .title-half .ensures) (c .before .before .before .rule-half .ensures))) (c .if1 .taken))
+    hit 10 _ _ (denied (c .before .is-free .ensures ∙ ap isFree (c .before .before .kind .ensures)) (c .if1 .taken))
 
 state-requires : tie.Need-state-requires
 state-requires c κs = search needs
@@ -32,20 +26,20 @@ is-empty-requires c κs = search needs
 
 returns-2 : tie.Need-returns-2
 returns-2 c =
-    skip 10 _ _ _ (denied (c .before .before .before .before .is-free .ensures ∙ ap isFree (kind-seen (c .before .before .before .before .before .kind .ensures) (c .before .before .before .before .before .before .before .title-half .ensures) (c .before .before .before .before .before .before .rule-half .ensures))) (c .before .before .before .if1 .left))
+    let kind = c .before .before .before in
+    skip 10 _ _ _ (denied (kind .before .is-free .ensures ∙ ap isFree (kind .before .before .kind .ensures)) (kind .if1 .left))
     (hit 11 _ _ (denied (c .before .is-empty .ensures ∙ ap isEmpty (c .before .before .state .ensures)) (c .if2 .taken)))
 
 returns-3 : tie.Need-returns-3
 returns-3 c =
-    skip 10 _ _ _ (denied (c .before .before .before .before .is-free .ensures ∙ ap isFree (kind-seen (c .before .before .before .before .before .kind .ensures) (c .before .before .before .before .before .before .before .title-half .ensures) (c .before .before .before .before .before .before .rule-half .ensures))) (c .before .before .before .if1 .left))
+    let kind = c .before .before .before in
+    skip 10 _ _ _ (denied (kind .before .is-free .ensures ∙ ap isFree (kind .before .before .kind .ensures)) (kind .if1 .left))
     (skip 11 _ _ _ (denied (c .before .is-empty .ensures ∙ ap isEmpty (c .before .before .state .ensures)) (c .if2 .left)) end)
 
 pub state-spec : {M : Type 1} → statement M
 state-spec =
     tie.close
     (tie.spec
-    title-half-requires
-    rule-half-requires
     kind-requires
     is-free-requires
     returns
