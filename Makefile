@@ -5,7 +5,7 @@
 demo:
 	@mkdir -p target
 	@rt check counter > target/demo.log || { tail -20 target/demo.log; exit 1; }
-	target/bin/counter < crates/counter/stdin
+	@target/bin/counter < crates/counter/stdin
 
 test: expected till
 	rt fmt --check
