@@ -1,13 +1,10 @@
 # make demo: the counter on document 01's example. make test: every test, and the proofs last.
-.PHONY: demo test expected till target/staticlib/libtill.a
+.PHONY: demo test expected till programs target/staticlib/libtill.a target/bin/counter
 
-# Proving and building takes a few minutes, once.
-demo:
-	@mkdir -p target
-	@rt check counter > target/demo.log || { tail -20 target/demo.log; exit 1; }
-	@target/bin/counter < crates/counter/stdin
+demo: target/bin/counter
+	@$< < crates/counter/stdin
 
-test: expected till
+test: expected till programs
 	rt fmt --check
 	rt ci
 
@@ -39,3 +36,12 @@ target/host/till-test: host/till/test.c include/music_counter.h target/staticlib
 # Whether it is up to date is for rt to say.
 target/staticlib/libtill.a:
 	rt staticlib till
+
+# The program, on requests written by hand.
+programs: target/bin/counter
+	host/counter/test.sh $<
+
+# Proving and building takes a few minutes, once.
+target/bin/counter:
+	@mkdir -p target
+	@rt check counter > target/counter.log || { tail -20 target/counter.log; exit 1; }

@@ -7,7 +7,7 @@ use formats::facts::Facts;
 
 pub const UNLIMITED: u64 = 15;
 
-// One less; an unlimited count stays as it is.
+// One less; an unlimited count stays as it is, and so does 0.
 pub fn one_less(n: u64) -> u64
     ensures { λ r. ⌜ r ≡ oneLess n ⌝ }
 {

@@ -11,9 +11,9 @@ pub enum EntryKind {
     Free,
     // Only the title half is usable: a loan copy.
     Copy,
-    // Both halves are usable: the title lives here.
+    // Both halves are usable, with equal IDs: the title lives here.
     Full,
-    // Anything else. It serves for nothing, and is not free.
+    // Anything else. No call takes it: it is not free.
     Torn,
 }
 

@@ -6,7 +6,7 @@ pub const TOO_SHORT: u64 = 1;
 pub const NUMBER: u64 = 2;
 // A kind is not 1 to 7.
 pub const KIND: u64 = 3;
-// A content ID is not 1 to 999.
+// A content ID is not 1 to 999; in formatting, the number of rows.
 pub const CONTENT_ID: u64 = 4;
 // An entry number is not 1 to 999.
 pub const ENTRY_NUMBER: u64 = 5;

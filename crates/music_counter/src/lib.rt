@@ -1,5 +1,5 @@
 // The music counter: the seven calls over a ledger and a card, and serving them from request bytes. Here are the writers that
-// the calls share; each writes one place, which its caller has found to be in its table.
+// the calls share; each writes places that its caller has found to be in their tables.
 ghost use mathlib.Core.Path.{_≡_};
 ghost use Prim.Native.Nat.{_+_, _*_, _≤_};
 ghost use lib.ListN.{length};

@@ -54,7 +54,7 @@ pub fn perform(ledger: &mut [u8], titles: &mut [u8], rules: &mut [u8], request: 
     }
 }
 
-// The number that stopped reading, or 0.
+// The number of a request that could not be read; 0 of one that was.
 fn stopped(found: RequestRead) -> u64
     ensures { λ r. ⌜ r ≡ requestAnswer found ⌝ }
 {
@@ -93,7 +93,7 @@ pub fn remainder(s: &[u8], served: Served) -> &[u8]
     }
 }
 
-// The number that stopped reading, or 0.
+// The number that stopped reading: 0 where a request was served.
 pub fn number(served: Served) -> u64
     ensures { λ r. ⌜ r ≡ servedNumber served ⌝ }
 {

@@ -24,6 +24,7 @@ fn state(ledger: &[u8], titles: &[u8], rules: &[u8], entry: EntryNumber, f1: u64
         return refusal::STATE_OF_ROW;
     }
     let facts = ledger::here_facts(row);
+    // One more would be 15, which means unlimited.
     if facts.permits == 14 {
         return refusal::PERMITS_FULL;
     }
