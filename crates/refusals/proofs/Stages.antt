@@ -7,10 +7,8 @@ use mathlib.Core.List.{List, _++_}
 use mathlib.Core.Bool.{Bool, true, false, not, _&&_, _||_}
 use lib.Dec.{eqb}
 use borrow.Author.Tests.{eq-eqb, ne-eqb}
-use Rattle.calls.specs.Buffers.{Buffers}
 use Rattle.calls.specs.Refusal.{Condition, first}
-use Rattle.calls.specs.Conditions.{allHeadConditions}
-use Rattle.calls.proofs.Refusals.{first-stage, next-stage}
+use Rattle.calls.proofs.Refusals.{refusing, first-stage, next-stage}
 
 -- a test in code that says what a definition's test says; `!` of it in code likewise
 pub told : {r b t : Bool} → r ≡ b → r ≡ t → b ≡ t
@@ -19,13 +17,13 @@ told e q = sym e ∙ q
 pub denied : {r b t : Bool} → r ≡ b → not r ≡ t → not b ≡ t
 denied e q = ap not (sym e) ∙ q
 
--- the heads refuse; or they do not, and what comes after them decides
-module _ (b : Buffers) (rest : List Condition) {w : ℕ} (e : w ≡ first (allHeadConditions b)) where
-  pub by-heads : w ≢ 0 → w ≡ first (allHeadConditions b ++ rest)
-  by-heads some = first-stage (allHeadConditions b) rest e some
+-- a stage refuses; or it does not, and what comes after it decides
+module _ (cs rest : List Condition) {w : ℕ} (e : w ≡ first cs) where
+  pub by-first : w ≢ 0 → w ≡ first (cs ++ rest)
+  by-first some = first-stage cs rest e some
 
-  pub past-heads : {n : ℕ} → w ≡ 0 → n ≡ first rest → n ≡ first (allHeadConditions b ++ rest)
-  past-heads zero q = next-stage (allHeadConditions b) rest refl (sym e ∙ zero) q
+  pub past-first : {n : ℕ} → refusing cs ≡ true → w ≡ 0 → n ≡ first rest → n ≡ first (cs ++ rest)
+  past-first r zero q = next-stage cs rest r (sym e ∙ zero) q
 
 -- a number that is tested for a value
 module _ {x y n : ℕ} (e : x ≡ y) where

@@ -5,11 +5,9 @@ ghost use Rattle.calls.specs.Buffers.{lent};
 ghost use Rattle.calls.specs.Refusal.{first};
 ghost use Rattle.calls.specs.Conditions.{stateConditions};
 ghost use Rattle.calls.specs.Perform.{refusal};
-use calls::argument;
 use formats::facts::EntryNumber;
 use formats::refusal;
 use tables::card;
-use tables::heads;
 use tables::ledger;
 
 fn state(ledger: &[u8], titles: &[u8], rules: &[u8], entry: EntryNumber, f1: u64) -> u64
@@ -37,10 +35,7 @@ fn state(ledger: &[u8], titles: &[u8], rules: &[u8], entry: EntryNumber, f1: u64
 pub fn refusal(ledger: &[u8], titles: &[u8], rules: &[u8], entry: EntryNumber, f1: u64) -> u64
     ensures { λ r. ⌜ r ≡ refusal (CheckIn entry f1) (lent (now (ledger .entry)) (now (titles .entry)) (now (rules .entry))) ⌝ }
 {
-    if !argument::is_numbered(entry.0) {
-        return refusal::ENTRY_NUMBER;
-    }
-    let w = heads::check(ledger, titles, rules);
+    let w = crate::before_entry(ledger, titles, rules, entry);
     if w != 0 {
         return w;
     }

@@ -5,12 +5,10 @@ ghost use Rattle.calls.specs.Buffers.{lent};
 ghost use Rattle.calls.specs.Refusal.{first};
 ghost use Rattle.calls.specs.Conditions.{stateConditions};
 ghost use Rattle.calls.specs.Perform.{refusal};
-use calls::argument;
 use formats::facts::ContentId;
 use formats::facts::EntryNumber;
 use formats::refusal;
 use tables::card;
-use tables::heads;
 use tables::ledger;
 
 fn state(ledger: &[u8], titles: &[u8], rules: &[u8], content: ContentId, entry: EntryNumber) -> u64
@@ -40,13 +38,7 @@ pub fn refusal(
 ) -> u64
     ensures { λ r. ⌜ r ≡ refusal (CheckOut content entry) (lent (now (ledger .entry)) (now (titles .entry)) (now (rules .entry))) ⌝ }
 {
-    if !argument::is_numbered(content.0) {
-        return refusal::CONTENT_ID;
-    }
-    if !argument::is_numbered(entry.0) {
-        return refusal::ENTRY_NUMBER;
-    }
-    let w = heads::check(ledger, titles, rules);
+    let w = crate::before_both(ledger, titles, rules, content, entry);
     if w != 0 {
         return w;
     }

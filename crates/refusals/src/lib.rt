@@ -1,5 +1,15 @@
 // Which number each of the seven calls answers: its refusal conditions, tested in stages and in the paper's order. Arguments
 // first, then the heads, then the state. Nothing is written here.
+ghost use mathlib.Core.Path.{_≡_};
+ghost use Rattle.calls.specs.Buffers.{lent};
+ghost use Rattle.calls.specs.Refusal.{first};
+ghost use Rattle.refusals.specs.Before.{entryConditions, titleConditions};
+use calls::argument;
+use formats::facts::ContentId;
+use formats::facts::EntryNumber;
+use formats::refusal;
+use tables::heads;
+
 pub mod check_in;
 pub mod check_out;
 pub mod delete;
@@ -7,3 +17,29 @@ pub mod move_in;
 pub mod move_out;
 pub mod record;
 pub mod register;
+
+// What a call that names an entry tests before it looks there: 5, then 7, 8 and 9.
+fn before_entry(ledger: &[u8], titles: &[u8], rules: &[u8], entry: EntryNumber) -> u64
+    ensures { λ r. ⌜ r ≡ first (entryConditions (entry .0) (lent (now (ledger .entry)) (now (titles .entry)) (now (rules .entry)))) ⌝ }
+{
+    if !argument::is_numbered(entry.0) {
+        return refusal::ENTRY_NUMBER;
+    }
+    heads::check(ledger, titles, rules)
+}
+
+// And one that names a title too: 4, and then the same.
+fn before_both(
+    ledger: &[u8],
+    titles: &[u8],
+    rules: &[u8],
+    content: ContentId,
+    entry: EntryNumber,
+) -> u64
+    ensures { λ r. ⌜ r ≡ first (titleConditions (content .0) (entry .0) (lent (now (ledger .entry)) (now (titles .entry)) (now (rules .entry)))) ⌝ }
+{
+    if !argument::is_numbered(content.0) {
+        return refusal::CONTENT_ID;
+    }
+    before_entry(ledger, titles, rules, entry)
+}

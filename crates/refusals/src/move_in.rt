@@ -5,14 +5,12 @@ ghost use Rattle.calls.specs.Buffers.{lent};
 ghost use Rattle.calls.specs.Refusal.{first};
 ghost use Rattle.calls.specs.Conditions.{stateConditions};
 ghost use Rattle.calls.specs.Perform.{refusal};
-use calls::argument;
 use calls::count;
 use formats::facts::ContentId;
 use formats::facts::EntryNumber;
 use formats::refusal;
 use tables::card;
 use tables::copies;
-use tables::heads;
 use tables::ledger;
 
 // The card is searched for a copy last, when nothing else refuses.
@@ -45,13 +43,7 @@ pub fn refusal(
 ) -> u64
     ensures { λ r. ⌜ r ≡ refusal (MoveIn content entry 0) (lent (now (ledger .entry)) (now (titles .entry)) (now (rules .entry))) ⌝ }
 {
-    if !argument::is_numbered(content.0) {
-        return refusal::CONTENT_ID;
-    }
-    if !argument::is_numbered(entry.0) {
-        return refusal::ENTRY_NUMBER;
-    }
-    let w = heads::check(ledger, titles, rules);
+    let w = crate::before_both(ledger, titles, rules, content, entry);
     if w != 0 {
         return w;
     }

@@ -1,43 +1,35 @@
--- `refusals::check_in::refusal` meets its contract: arguments, heads, then the state.
+-- `refusals::check_in::refusal` meets its contract: arguments and heads, then the state.
 -- Assumes nothing.
 use borrow.Author.Needs.{needs}
+use mathlib.Core.Path.{refl}
 use Rattle.formats.specs.declared.request.Request.the-variants.{CheckIn}
 use Rattle.calls.specs.Buffers.{lent}
 use Rattle.calls.specs.Conditions.{stateConditions, conditions}
 use Rattle.calls.specs.Perform.{refusal}
-use Rattle.calls.proofs.Refusals.{hit, skip}
-use Rattle.refusals.proofs.Stages.{denied, by-heads, past-heads}
+use Rattle.refusals.specs.Before.{entryConditions}
+use Rattle.refusals.proofs.Stages.{by-first, past-first}
 use Rattle.refusals.proofs.check_in.refusal.Statement.{statement}
 use Rattle.refusals.proofs.check_in.refusal.Tie as tie
 
-is-numbered-requires : tie.Need-is-numbered-requires
-is-numbered-requires c κs = search needs
+before-entry-requires : tie.Need-before-entry-requires
+before-entry-requires c κs = search needs
 
 returns : tie.Need-returns
 unfolding refusal conditions
-returns c = hit 5 _ _ (denied (c .before .is-numbered .ensures) (c .if1 .taken))
-
-check-requires : tie.Need-check-requires
-check-requires c κs = search needs
-
-returns-2 : tie.Need-returns-2
-unfolding refusal conditions
-returns-2 c =
-    let a = c .before .before .before .before .before .before .before .args in
+returns c =
+    let a = c .before .before .before .before .before .args in
     let b = lent (a .ledger .now) (a .titles .now) (a .rules .now) in
-    skip 5 _ _ _ (denied (c .before .before .before .is-numbered .ensures) (c .before .before .if1 .left)) (by-heads b (stateConditions (CheckIn (a .entry) (a .f1)) b) (c .before .check .ensures) (c .if2 .taken))
+    by-first (entryConditions (a .entry .0) b) (stateConditions (CheckIn (a .entry) (a .f1)) b) (c .before .before-entry .ensures) (c .if1 .taken)
 
 state-requires : tie.Need-state-requires
 state-requires c κs = search needs
 
-returns-3 : tie.Need-returns-3
+returns-2 : tie.Need-returns-2
 unfolding refusal conditions
-returns-3 c =
-    let a = c .before .before .before .before .before .before .before .before .args in
+returns-2 c =
+    let a = c .before .before .before .before .before .before .args in
     let b = lent (a .ledger .now) (a .titles .now) (a .rules .now) in
-    skip 5 _ _ _ (denied (c .before .before .before .before .is-numbered .ensures) (c .before .before .before .if1 .left)) (past-heads b (stateConditions (CheckIn (a .entry) (a .f1)) b) (c .before .before .check .ensures) (c .before .if2 .left) (c .state .ensures))
+    past-first (entryConditions (a .entry .0) b) (stateConditions (CheckIn (a .entry) (a .f1)) b) (c .before .before .before-entry .ensures) refl (c .before .if1 .left) (c .state .ensures)
 
 pub refusal-spec : {M : Type 1} → statement M
-refusal-spec =
-    tie.close
-    (tie.spec is-numbered-requires returns check-requires returns-2 state-requires returns-3)
+refusal-spec = tie.close (tie.spec before-entry-requires returns state-requires returns-2)

@@ -1,12 +1,13 @@
 -- `refusals::record::refusal` meets its contract: arguments, heads, then the state.
 -- Assumes nothing.
 use borrow.Author.Needs.{needs}
+use mathlib.Core.Path.{refl}
 use Rattle.formats.specs.declared.request.Request.the-variants.{Record}
 use Rattle.calls.specs.Buffers.{lent}
-use Rattle.calls.specs.Conditions.{stateConditions, conditions}
+use Rattle.calls.specs.Conditions.{allHeadConditions, stateConditions, conditions}
 use Rattle.calls.specs.Perform.{refusal}
 use Rattle.calls.proofs.Refusals.{hit, skip}
-use Rattle.refusals.proofs.Stages.{denied, by-heads, past-heads}
+use Rattle.refusals.proofs.Stages.{denied, by-first, past-first}
 use Rattle.refusals.proofs.record.refusal.Statement.{statement}
 use Rattle.refusals.proofs.record.refusal.Tie as tie
 
@@ -39,7 +40,7 @@ unfolding refusal conditions
 returns-4 c =
     let a = c .before .before .before .before .before .before .before .before .before .before .before .args in
     let b = lent (a .ledger .now) (a .titles .now) (a .rules .now) in
-    skip 4 _ _ _ (denied (c .before .before .before .before .before .before .before .is-numbered .ensures) (c .before .before .before .before .before .before .if1 .left)) (skip 5 _ _ _ (denied (c .before .before .before .before .before .is-numbered2 .ensures) (c .before .before .before .before .if2 .left)) (skip 6 _ _ _ (denied (c .before .before .before .are-facts .ensures) (c .before .before .if3 .left)) (by-heads b (stateConditions (Record (a .content) (a .entry) (a .facts) 0) b) (c .before .check .ensures) (c .if4 .taken))))
+    skip 4 _ _ _ (denied (c .before .before .before .before .before .before .before .is-numbered .ensures) (c .before .before .before .before .before .before .if1 .left)) (skip 5 _ _ _ (denied (c .before .before .before .before .before .is-numbered2 .ensures) (c .before .before .before .before .if2 .left)) (skip 6 _ _ _ (denied (c .before .before .before .are-facts .ensures) (c .before .before .if3 .left)) (by-first (allHeadConditions b) (stateConditions (Record (a .content) (a .entry) (a .facts) 0) b) (c .before .check .ensures) (c .if4 .taken))))
 
 state-requires : tie.Need-state-requires
 state-requires c κs = search needs
@@ -49,7 +50,7 @@ unfolding refusal conditions
 returns-5 c =
     let a = c .before .before .before .before .before .before .before .before .before .before .before .before .args in
     let b = lent (a .ledger .now) (a .titles .now) (a .rules .now) in
-    skip 4 _ _ _ (denied (c .before .before .before .before .before .before .before .before .is-numbered .ensures) (c .before .before .before .before .before .before .before .if1 .left)) (skip 5 _ _ _ (denied (c .before .before .before .before .before .before .is-numbered2 .ensures) (c .before .before .before .before .before .if2 .left)) (skip 6 _ _ _ (denied (c .before .before .before .before .are-facts .ensures) (c .before .before .before .if3 .left)) (past-heads b (stateConditions (Record (a .content) (a .entry) (a .facts) 0) b) (c .before .before .check .ensures) (c .before .if4 .left) (c .state .ensures))))
+    skip 4 _ _ _ (denied (c .before .before .before .before .before .before .before .before .is-numbered .ensures) (c .before .before .before .before .before .before .before .if1 .left)) (skip 5 _ _ _ (denied (c .before .before .before .before .before .before .is-numbered2 .ensures) (c .before .before .before .before .before .if2 .left)) (skip 6 _ _ _ (denied (c .before .before .before .before .are-facts .ensures) (c .before .before .before .if3 .left)) (past-first (allHeadConditions b) (stateConditions (Record (a .content) (a .entry) (a .facts) 0) b) (c .before .before .check .ensures) refl (c .before .if4 .left) (c .state .ensures))))
 
 pub refusal-spec : {M : Type 1} → statement M
 refusal-spec =
