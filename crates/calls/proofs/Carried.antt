@@ -10,7 +10,7 @@ use Rattle.formats.specs.Part.{put}
 use Rattle.formats.specs.declared.facts.ContentId.{ContentId}
 use Rattle.formats.specs.declared.facts.EntryNumber.{EntryNumber}
 use Rattle.formats.specs.declared.facts.Facts.{Facts}
-use Rattle.formats.specs.declared.request.Request.the-variants.{Register, Record, CheckOut, MoveOut, MoveIn}
+use Rattle.requests.specs.declared.request.Request.the-variants.{Register, Record, CheckOut, MoveOut, MoveIn}
 use Rattle.formats.proofs.half.Laws.{written-key}
 use Rattle.formats.proofs.title.Laws.{length-titleHalf, title-written, title-cci}
 use Rattle.formats.proofs.rule.Laws.{length-ruleHalf, rule-hash}

@@ -13,7 +13,7 @@ use Rattle.formats.specs.declared.facts.ContentId.{ContentId}
 use Rattle.formats.specs.declared.facts.EntryNumber.{EntryNumber}
 use Rattle.formats.specs.declared.facts.Facts.{Facts}
 use Rattle.formats.specs.declared.facts.Fillers.{Fillers}
-use Rattle.formats.specs.declared.request.Request.the-variants.{Register, Record, CheckOut, CheckIn, MoveOut, MoveIn, Delete}
+use Rattle.requests.specs.declared.request.Request.the-variants.{Register, Record, CheckOut, CheckIn, MoveOut, MoveIn, Delete}
 use Rattle.formats.specs.declared.entry.EntryKind.the-variants.{Copy, Full}
 use Rattle.formats.specs.declared.row.RowState.{RowState}
 use Rattle.formats.specs.declared.row.RowState.the-variants.{Here, Away, Gone}

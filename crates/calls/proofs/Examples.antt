@@ -14,8 +14,8 @@ use Rattle.formats.specs.Half.{halfBytes, flagOf, usableOf, idOf}
 use Rattle.formats.specs.Title.{cciOf, titleHalf}
 use Rattle.formats.specs.Entry.{kindOf}
 use Rattle.formats.specs.Head.{rulesPass, rulesApplication, ledgerApplication}
-use Rattle.formats.specs.Number.{groupsIn, groups, readFrom, readNumber}
-use Rattle.formats.specs.Request.{kindOf as callOf, numbers, written, readRequest, readArguments, schema, requestOf}
+use Rattle.requests.specs.Number.{groupsIn, groups, readFrom, readNumber}
+use Rattle.requests.specs.Request.{kindOf as callOf, numbers, written, readRequest, readArguments, schema, requestOf}
 use Rattle.formats.specs.declared.facts.Facts.{Facts}
 use Rattle.formats.specs.declared.facts.ContentId.{ContentId}
 use Rattle.formats.specs.declared.facts.EntryNumber.{EntryNumber}
@@ -23,8 +23,8 @@ use Rattle.formats.specs.declared.facts.Fillers.{Fillers}
 use Rattle.formats.specs.declared.row.RowState.{RowState}
 use Rattle.formats.specs.declared.row.RowState.the-variants.{Here}
 use Rattle.formats.specs.declared.entry.EntryKind.the-variants.{Torn}
-use Rattle.formats.specs.declared.request.Request.{Request}
-use Rattle.formats.specs.declared.request.Request.the-variants.{Register, Record, CheckOut, CheckIn, MoveOut, MoveIn, Delete}
+use Rattle.requests.specs.declared.request.Request.{Request}
+use Rattle.requests.specs.declared.request.Request.the-variants.{Register, Record, CheckOut, CheckIn, MoveOut, MoveIn, Delete}
 use Rattle.formats.proofs.Tests.{both, refuted, either}
 use Rattle.formats.proofs.entry.Laws.{kind-copy, torn-cci, torn-ids}
 use Rattle.formats.proofs.head.Laws.{table-head, rules-head, rules-pass}

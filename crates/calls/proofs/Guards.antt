@@ -14,14 +14,14 @@ use Rattle.formats.specs.Rule.{wipedRule}
 use Rattle.formats.specs.Facts.{cciPasses, triggerPasses, countPasses, keyPasses, inRange}
 use Rattle.formats.specs.Refusal.{unless}
 use Rattle.formats.specs.Head.{ledgerPasses, ledgerApplication, titlesPass, rulesPass, rulesApplication}
-use Rattle.formats.specs.Request.{kindOf, factArguments, factValues, schema, firstLimit, limitOf}
+use Rattle.requests.specs.Request.{kindOf, factArguments, factValues, schema, firstLimit, limitOf}
 use Rattle.formats.specs.Row.{hereRow, plainRow}
 use Rattle.formats.specs.declared.facts.Facts.{Facts}
 use Rattle.formats.specs.declared.facts.ContentId.{ContentId}
 use Rattle.formats.specs.declared.facts.EntryNumber.{EntryNumber}
 use Rattle.formats.specs.declared.facts.Fillers.{Fillers}
-use Rattle.formats.specs.declared.request.Request.{Request}
-use Rattle.formats.specs.declared.request.Request.the-variants.{Register, Record, CheckOut, CheckIn, MoveOut, MoveIn, Delete}
+use Rattle.requests.specs.declared.request.Request.{Request}
+use Rattle.requests.specs.declared.request.Request.the-variants.{Register, Record, CheckOut, CheckIn, MoveOut, MoveIn, Delete}
 use Rattle.formats.specs.declared.entry.EntryKind.the-variants.{Full}
 use Rattle.formats.proofs.Tests.{split}
 use Rattle.formats.proofs.half.Laws.{half-wiped, wiped-key-gone}

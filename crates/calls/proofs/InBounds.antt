@@ -13,8 +13,8 @@ use Rattle.formats.specs.Rule.{ruleHalf, wipedRule}
 use Rattle.formats.specs.Row.{hereRow, plainRow, withPermits}
 use Rattle.formats.specs.declared.facts.Facts.{Facts}
 use Rattle.formats.specs.declared.facts.Fillers.{Fillers}
-use Rattle.formats.specs.declared.request.Request.{Request}
-use Rattle.formats.specs.declared.request.Request.the-variants.{Register, Record, CheckOut, CheckIn, MoveOut, MoveIn, Delete}
+use Rattle.requests.specs.declared.request.Request.{Request}
+use Rattle.requests.specs.declared.request.Request.the-variants.{Register, Record, CheckOut, CheckIn, MoveOut, MoveIn, Delete}
 use Rattle.formats.proofs.Part.{put-length}
 use Rattle.formats.proofs.Bytes.{listed, bytes-part, bytes-put}
 use Rattle.formats.proofs.half.Laws.{wiped-length, wiped-bytes}

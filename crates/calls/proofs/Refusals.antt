@@ -8,8 +8,8 @@ use mathlib.Core.Bool.{Bool, true, false, not, _&&_, _||_, cond, true≢false}
 use lib.Dec.{eqb}
 use borrow.Author.Tests.{eq-eqb, ne-eqb, eqb-false, not-true}
 use Rattle.formats.specs.Refusal.{unless as answer}
-use Rattle.formats.specs.declared.request.Request.{Request}
-use Rattle.formats.specs.declared.request.Request.the-variants.{Register, Record, CheckOut, CheckIn, MoveOut, MoveIn, Delete}
+use Rattle.requests.specs.declared.request.Request.{Request}
+use Rattle.requests.specs.declared.request.Request.the-variants.{Register, Record, CheckOut, CheckIn, MoveOut, MoveIn, Delete}
 use Rattle.formats.proofs.Tests.{split, one-holds, refuted}
 use Rattle.calls.specs.Buffers.{Buffers}
 use Rattle.calls.specs.Refusal.{Condition, _when_, _unless_, first, numbersOf, FirstToHold, NoneHolds}

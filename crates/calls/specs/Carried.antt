@@ -8,7 +8,7 @@ use Rattle.formats.specs.declared.facts.ContentId.{ContentId}
 use Rattle.formats.specs.declared.facts.EntryNumber.{EntryNumber}
 use Rattle.formats.specs.declared.facts.Facts.{Facts}
 use Rattle.formats.specs.declared.facts.Fillers.{Fillers}
-use Rattle.formats.specs.declared.request.Request.the-variants.{Register, Record, CheckOut, MoveOut, MoveIn}
+use Rattle.requests.specs.declared.request.Request.the-variants.{Register, Record, CheckOut, MoveOut, MoveIn}
 use Rattle.calls.specs.Buffers.{Buffers, titleAt, ruleAt, rowFacts, contentAt, factsAt}
 use Rattle.calls.specs.Perform.{perform, AreBytes}
 

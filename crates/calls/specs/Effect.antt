@@ -7,8 +7,8 @@ use Rattle.formats.specs.Rule.{ruleHalf, wipedRule}
 use Rattle.formats.specs.Row.{hereRow, plainRow, withPermits}
 use Rattle.formats.specs.declared.facts.Facts.{Facts}
 use Rattle.formats.specs.declared.facts.Fillers.{Fillers}
-use Rattle.formats.specs.declared.request.Request.{Request}
-use Rattle.formats.specs.declared.request.Request.the-variants.{Register, Record, CheckOut, CheckIn, MoveOut, MoveIn, Delete}
+use Rattle.requests.specs.declared.request.Request.{Request}
+use Rattle.requests.specs.declared.request.Request.the-variants.{Register, Record, CheckOut, CheckIn, MoveOut, MoveIn, Delete}
 use Rattle.calls.specs.Count.{oneLess, oneMore}
 use Rattle.calls.specs.Buffers.{Buffers, rowAt, titleAt, ruleAt, rowFacts, kindAt, contentAt, factsAt, isFull, withRow, withTitle, withRule}
 

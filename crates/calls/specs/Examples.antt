@@ -5,8 +5,8 @@ use mathlib.Core.Logic.{_≢_}
 use mathlib.Core.List.{List, [], _∷_}
 use mathlib.Core.Bool.{true, false}
 use lib.ListN.{length, getD}
-use Rattle.formats.specs.Number.{groups, readNumber}
-use Rattle.formats.specs.Request.{kindOf as callOf, written, readRequest}
+use Rattle.requests.specs.Number.{groups, readNumber}
+use Rattle.requests.specs.Request.{kindOf as callOf, written, readRequest}
 use Rattle.formats.specs.Half.{keyOf, flagOf, idOf, usableOf}
 use Rattle.formats.specs.Title.{cciOf, titleHalf}
 use Rattle.formats.specs.Entry.{kindOf}
@@ -14,10 +14,10 @@ use Rattle.formats.specs.Head.{ledgerPasses, ledgerApplication, tablePasses, ti
 use Rattle.formats.specs.declared.facts.ContentId.{ContentId}
 use Rattle.formats.specs.declared.facts.EntryNumber.{EntryNumber}
 use Rattle.formats.specs.declared.facts.Fillers.{Fillers}
-use Rattle.formats.specs.declared.number.NumberRead.the-variants.{Number, Refused as NoNumber}
-use Rattle.formats.specs.declared.request.Request.{Request}
-use Rattle.formats.specs.declared.request.Request.the-variants.{CheckOut, CheckIn, MoveOut, MoveIn}
-use Rattle.formats.specs.declared.request.RequestRead.the-variants.{Read, Refused}
+use Rattle.requests.specs.declared.number.NumberRead.the-variants.{Number, Refused as NoNumber}
+use Rattle.requests.specs.declared.request.Request.{Request}
+use Rattle.requests.specs.declared.request.Request.the-variants.{CheckOut, CheckIn, MoveOut, MoveIn}
+use Rattle.requests.specs.declared.request.RequestRead.the-variants.{Read, Refused}
 use Rattle.formats.specs.declared.entry.EntryKind.the-variants.{Copy, Full, Torn}
 use Rattle.calls.specs.Buffers.{Buffers, stateAt, rowFacts, kindAt, contentAt, factsAt, isHere}
 use Rattle.calls.specs.Refusal.{NoneHolds}

@@ -8,13 +8,13 @@ use mathlib.Core.Bool.{false}
 use Rattle.formats.specs.Half.{keyOf}
 use Rattle.formats.specs.Rule.{hashOf}
 use Rattle.formats.specs.Head.{ledgerPasses, ledgerApplication, titlesPass, rulesPass, rulesApplication}
-use Rattle.formats.specs.Request.{kindOf, limitOf}
+use Rattle.requests.specs.Request.{kindOf, limitOf}
 use Rattle.formats.specs.declared.facts.ContentId.{ContentId}
 use Rattle.formats.specs.declared.facts.EntryNumber.{EntryNumber}
 use Rattle.formats.specs.declared.facts.Facts.{Facts}
 use Rattle.formats.specs.declared.facts.Fillers.{Fillers}
-use Rattle.formats.specs.declared.request.Request.{Request}
-use Rattle.formats.specs.declared.request.Request.the-variants.{Register, CheckOut, CheckIn, MoveOut, MoveIn, Delete}
+use Rattle.requests.specs.declared.request.Request.{Request}
+use Rattle.requests.specs.declared.request.Request.the-variants.{Register, CheckOut, CheckIn, MoveOut, MoveIn, Delete}
 use Rattle.formats.specs.declared.entry.EntryKind.the-variants.{Full}
 use Rattle.calls.specs.Buffers.{Buffers, titleAt, ruleAt, rowFacts, kindAt, factsAt}
 use Rattle.calls.specs.Refusal.{first}

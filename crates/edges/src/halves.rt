@@ -1,7 +1,7 @@
 // The title half and the rule half of an entry, and what they are together.
 use crate::lines;
 use crate::print;
-use crate::requests;
+use crate::request_cases;
 use formats::entry;
 use formats::entry::EntryKind;
 use formats::facts::ContentId;
@@ -58,7 +58,7 @@ pub fn half_write(line: &[u8]) {
 pub fn rule_write(line: &[u8]) {
     let mut half = [0xeeu8; 32];
     let v = lines::numbers(line, 1);
-    rule::write(&mut half, requests::facts(v, 0), v[6], ContentId(v[7]));
+    rule::write(&mut half, request_cases::facts(v, 0), v[6], ContentId(v[7]));
     print::bytes(b"bytes", &half);
 }
 
@@ -85,7 +85,7 @@ pub fn rule_wipe(line: &[u8]) {
         print::unknown();
         return;
     }
-    let fillers = requests::fillers(lines::numbers(line, 2), 0);
+    let fillers = request_cases::fillers(lines::numbers(line, 2), 0);
     rule::wipe(&mut half, fillers);
     print::bytes(b"bytes", &half);
 }

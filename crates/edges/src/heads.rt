@@ -1,7 +1,7 @@
 // The heads of the ledger and of the two card tables, and the rows of the ledger.
 use crate::lines;
 use crate::print;
-use crate::requests;
+use crate::request_cases;
 use formats::facts::Facts;
 use formats::head;
 use formats::row;
@@ -111,7 +111,7 @@ pub fn write(what: u8, line: &[u8]) {
     let mut row = [0xeeu8; 24];
     let v = lines::numbers(line, 1);
     match what {
-        HERE => row::write_here(&mut row, requests::facts(v, 0)),
+        HERE => row::write_here(&mut row, request_cases::facts(v, 0)),
         PERMITS => row::write_permits(&mut row, v[0]),
         _ => row::write_plain(&mut row, (v[0] % 256) as u8),
     }

@@ -1,4 +1,4 @@
-// Runs the cases of standard input, one a line, on the functions of `formats`, `tables` and `music_counter`, and prints each
+// Runs the cases of standard input, one a line, on the functions of the crates below, and prints each
 // line with ` -> ` and the answer. A line whose word is not known, or whose tokens do not fit, is answered `?`.
 //
 // A line is a word and then tokens, with single spaces between. A token is hexadecimal with two digits a byte, `-` for no
@@ -45,7 +45,7 @@ mod heads;
 mod lines;
 mod numbers;
 mod print;
-mod requests;
+mod request_cases;
 mod serving;
 
 ghost use mathlib.Core.Path.{_≡_};
@@ -103,9 +103,9 @@ fn answer(line: &[u8], s: &[u8]) {
         0 => numbers::len(line),
         1 => numbers::write(line),
         2 => numbers::read(s),
-        3 => requests::len(line),
-        4 => requests::write(line),
-        5 => requests::read(s),
+        3 => request_cases::len(line),
+        4 => request_cases::write(line),
+        5 => request_cases::read(s),
         6 => halves::title_write(line),
         7 => halves::title_read(s),
         8 => halves::title_wipe(line),

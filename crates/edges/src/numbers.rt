@@ -1,8 +1,8 @@
 // Numbers in groups of seven bits.
 use crate::lines;
 use crate::print;
-use formats::number;
-use formats::number::NumberRead;
+use requests::number;
+use requests::number::NumberRead;
 
 pub fn len(line: &[u8]) {
     let n = number::len(lines::number(line, 1));

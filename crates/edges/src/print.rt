@@ -1,6 +1,6 @@
 // The parts of an answer: names with values.
 use crate::lines;
-use formats::number::Written;
+use requests::number::Written;
 
 // The answer to a line that is no case.
 pub fn unknown() {

@@ -5,10 +5,10 @@ ghost use lib.ListN.{length};
 use crate::cards;
 use crate::lines;
 use crate::print;
-use crate::requests;
+use crate::request_cases;
 use formats::field;
-use formats::request;
 use music_counter::serve;
+use requests::request;
 use tables::format;
 
 // Sets the bytes that the patches name in the table of this number.
@@ -83,7 +83,7 @@ fn run(line: &[u8], patches: &[u8], stream: &[u8]) {
     let answer = if kind == 0 {
         serve::all(&mut ledger[..a], &mut titles[..b], &mut rules[..c], stream)
     } else {
-        let request = request::request_of(kind, requests::nine(lines::numbers(line, 8)));
+        let request = request::request_of(kind, request_cases::nine(lines::numbers(line, 8)));
         serve::perform(&mut ledger[..a], &mut titles[..b], &mut rules[..c], request)
     };
     print::number(b"answer", answer);

@@ -1,7 +1,6 @@
 pub mod Refusal
 pub mod Part
 pub mod Field
-pub mod Number
 pub mod Facts
 pub mod Half
 pub mod Title
@@ -9,5 +8,3 @@ pub mod Rule
 pub mod Entry
 pub mod Head
 pub mod Row
-pub mod Request
-pub mod Packed

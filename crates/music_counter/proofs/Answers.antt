@@ -10,8 +10,8 @@ use Rattle.formats.specs.declared.facts.ContentId.{ContentId}
 use Rattle.formats.specs.declared.facts.EntryNumber.{EntryNumber}
 use Rattle.formats.specs.declared.facts.Facts.{Facts}
 use Rattle.formats.specs.declared.facts.Fillers.{Fillers}
-use Rattle.formats.specs.declared.request.Request.{Request}
-use Rattle.formats.specs.declared.request.Request.the-variants.{Record, MoveIn, Delete}
+use Rattle.requests.specs.declared.request.Request.{Request}
+use Rattle.requests.specs.declared.request.Request.the-variants.{Record, MoveIn, Delete}
 use Rattle.calls.specs.Buffers.{Buffers, kindAt, contentAt, isFull}
 use Rattle.calls.specs.Conditions.{conditions}
 use Rattle.calls.specs.Effect.{effect}

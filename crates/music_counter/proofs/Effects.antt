@@ -14,7 +14,7 @@ use Rattle.formats.specs.declared.facts.ContentId.{ContentId}
 use Rattle.formats.specs.declared.facts.EntryNumber.{EntryNumber}
 use Rattle.formats.specs.declared.facts.Facts.{Facts}
 use Rattle.formats.specs.declared.facts.Fillers.{Fillers}
-use Rattle.formats.specs.declared.request.Request.the-variants.{Record, CheckOut, CheckIn, MoveOut, MoveIn, Delete}
+use Rattle.requests.specs.declared.request.Request.the-variants.{Record, CheckOut, CheckIn, MoveOut, MoveIn, Delete}
 use Rattle.calls.specs.Count.{oneLess, oneMore}
 use Rattle.calls.specs.Buffers.{lent, rowAt, titleAt, ruleAt, stateIn, hereFacts, isFull}
 use Rattle.calls.specs.Effect.{effect, afterMove}

@@ -2,7 +2,7 @@
 -- Assumes nothing.
 use mathlib.Core.Path.{_≡_, refl}
 use mathlib.Core.List.{List, [], _∷_}
-use Rattle.formats.specs.declared.request.Request.{Request}
+use Rattle.requests.specs.declared.request.Request.{Request}
 use Rattle.calls.specs.History.{Run, next, run}
 use Rattle.tables.specs.History.{formatted}
 use Rattle.tables.proofs.History.{formatted-history}

@@ -6,14 +6,14 @@ use mathlib.Core.List.{List, [], _∷_}
 use native.Mathlib.Omega.{arith}
 use lib.ListN.{length, take, drop, length-drop}
 use lib.Seq.{drop-drop}
-use Rattle.formats.specs.Request.{kindOf, readRequest}
-use Rattle.formats.specs.declared.request.Request.{Request}
-use Rattle.formats.specs.declared.request.RequestRead.{RequestRead}
-use Rattle.formats.specs.declared.request.RequestRead.the-variants.{Read, Refused as Faulty}
+use Rattle.requests.specs.Request.{kindOf, readRequest}
+use Rattle.requests.specs.declared.request.Request.{Request}
+use Rattle.requests.specs.declared.request.RequestRead.{RequestRead}
+use Rattle.requests.specs.declared.request.RequestRead.the-variants.{Read, Refused as Faulty}
 use Rattle.formats.specs.Part.{part}
 use Rattle.formats.proofs.Part.{part-rest}
-use Rattle.formats.proofs.request.Laws.{request-form}
-use Rattle.formats.proofs.request.Reading.{lent-rest}
+use Rattle.requests.proofs.request.Laws.{request-form}
+use Rattle.requests.proofs.request.Reading.{lent-rest}
 use Rattle.calls.specs.Buffers.{Buffers}
 use Rattle.calls.specs.Perform.{Performed, perform}
 use Rattle.music_counter.specs.Answer.{Answers}

@@ -2,10 +2,10 @@
 use Prim.Native.Nat.{ℕ, zero, suc}
 use mathlib.Core.List.{List, [], _∷_}
 use lib.ListN.{length, drop}
-use Rattle.formats.specs.Request.{kindOf, readRequest}
-use Rattle.formats.specs.declared.request.Request.{Request}
-use Rattle.formats.specs.declared.request.RequestRead.{RequestRead}
-use Rattle.formats.specs.declared.request.RequestRead.the-variants.{Read, Refused as Faulty}
+use Rattle.requests.specs.Request.{kindOf, readRequest}
+use Rattle.requests.specs.declared.request.Request.{Request}
+use Rattle.requests.specs.declared.request.RequestRead.{RequestRead}
+use Rattle.requests.specs.declared.request.RequestRead.the-variants.{Read, Refused as Faulty}
 use Rattle.calls.specs.Buffers.{Buffers}
 use Rattle.calls.specs.Perform.{perform}
 use Rattle.music_counter.specs.declared.serve.Served.{Served}

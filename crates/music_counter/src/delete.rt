@@ -3,7 +3,7 @@ ghost use mathlib.Core.Path.{_≡_};
 ghost use mathlib.Core.Bool.{true};
 ghost use Prim.Native.Nat.{_+_, _*_, _≤_};
 ghost use lib.ListN.{length};
-ghost use Rattle.formats.specs.declared.request.Request.the-variants.{Delete};
+ghost use Rattle.requests.specs.declared.request.Request.the-variants.{Delete};
 ghost use Rattle.formats.specs.Half.{idOf};
 ghost use Rattle.formats.specs.Entry.{kindOf};
 ghost use Rattle.calls.specs.Buffers.{lent, titleAt, ruleAt, isFull};

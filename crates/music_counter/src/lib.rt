@@ -3,7 +3,7 @@
 ghost use mathlib.Core.Path.{_≡_};
 ghost use Prim.Native.Nat.{_+_, _*_, _≤_};
 ghost use lib.ListN.{length};
-ghost use Rattle.formats.specs.declared.request.Request.the-variants.{Record};
+ghost use Rattle.requests.specs.declared.request.Request.the-variants.{Record};
 ghost use Rattle.formats.specs.Part.{put};
 ghost use Rattle.formats.specs.Half.{wiped};
 ghost use Rattle.formats.specs.Title.{titleHalf};

@@ -2,7 +2,7 @@
 ghost use mathlib.Core.Path.{_≡_};
 ghost use Prim.Native.Nat.{_+_, _*_, _≤_};
 ghost use lib.ListN.{length};
-ghost use Rattle.formats.specs.declared.request.Request.the-variants.{MoveOut};
+ghost use Rattle.requests.specs.declared.request.Request.the-variants.{MoveOut};
 ghost use Rattle.formats.specs.Half.{idOf};
 ghost use Rattle.calls.specs.Buffers.{lent, titleAt};
 ghost use Rattle.calls.specs.Effect.{effect};

@@ -1,5 +1,5 @@
 // 2 record: a title goes to a free entry at once, full with the facts; its row, empty until then, is away.
-ghost use Rattle.formats.specs.declared.request.Request.the-variants.{Record};
+ghost use Rattle.requests.specs.declared.request.Request.the-variants.{Record};
 ghost use Rattle.calls.specs.Buffers.{lent};
 ghost use Rattle.music_counter.specs.Answer.{Answers};
 use formats::facts::ContentId;

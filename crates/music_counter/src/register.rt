@@ -1,5 +1,5 @@
 // 1 register: an empty row becomes here with the facts.
-ghost use Rattle.formats.specs.declared.request.Request.the-variants.{Register};
+ghost use Rattle.requests.specs.declared.request.Request.the-variants.{Register};
 ghost use Rattle.music_counter.specs.Answer.{AnswersByLedger};
 use formats::facts::ContentId;
 use formats::facts::Facts;

@@ -1,6 +1,6 @@
 // Serving requests from their bytes.
 ghost use mathlib.Core.Path.{_≡_};
-ghost use Rattle.formats.specs.Request.{kindOf, requestAnswer, readRequest};
+ghost use Rattle.requests.specs.Request.{kindOf, requestAnswer, readRequest};
 ghost use Rattle.calls.specs.Buffers.{lent};
 ghost use Rattle.music_counter.specs.Answer.{Answers};
 ghost use Rattle.music_counter.specs.Serve.{servedNumber, servedBy, leftBy, unread, streamOf, carriedOut};
@@ -11,10 +11,10 @@ use crate::move_in;
 use crate::move_out;
 use crate::record;
 use crate::register;
-use formats::request;
-use formats::request::Request;
-use formats::request::RequestRead;
 use formats::table;
+use requests::request;
+use requests::request::Request;
+use requests::request::RequestRead;
 
 // What serving one request comes to: its kind, its answer and the count of its bytes; or it could not be read.
 pub enum Served {

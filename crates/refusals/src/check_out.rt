@@ -1,6 +1,6 @@
 // The refusals of check-out: 4, 5, 7 to 12.
 ghost use mathlib.Core.Path.{_≡_};
-ghost use Rattle.formats.specs.declared.request.Request.the-variants.{CheckOut};
+ghost use Rattle.requests.specs.declared.request.Request.the-variants.{CheckOut};
 ghost use Rattle.calls.specs.Buffers.{lent};
 ghost use Rattle.calls.specs.Refusal.{first};
 ghost use Rattle.calls.specs.Conditions.{stateConditions};

@@ -1,6 +1,6 @@
 // The refusals of move in: 4, 5, 7 to 12, and 14. Trigger and rights are those of the row; the hash is not tested.
 ghost use mathlib.Core.Path.{_≡_};
-ghost use Rattle.formats.specs.declared.request.Request.the-variants.{MoveIn};
+ghost use Rattle.requests.specs.declared.request.Request.the-variants.{MoveIn};
 ghost use Rattle.calls.specs.Buffers.{lent};
 ghost use Rattle.calls.specs.Refusal.{first};
 ghost use Rattle.calls.specs.Conditions.{stateConditions};

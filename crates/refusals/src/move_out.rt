@@ -1,6 +1,6 @@
 // The refusals of move out: 5, 7 to 13, and 16. Trigger, rights and hash are those of the entry.
 ghost use mathlib.Core.Path.{_≡_};
-ghost use Rattle.formats.specs.declared.request.Request.the-variants.{MoveOut};
+ghost use Rattle.requests.specs.declared.request.Request.the-variants.{MoveOut};
 ghost use Rattle.calls.specs.Buffers.{lent};
 ghost use Rattle.calls.specs.Refusal.{first};
 ghost use Rattle.calls.specs.Conditions.{stateConditions};

@@ -1,6 +1,6 @@
 // The refusals of record: 4 to 11. The hash is not tested.
 ghost use mathlib.Core.Path.{_≡_};
-ghost use Rattle.formats.specs.declared.request.Request.the-variants.{Record};
+ghost use Rattle.requests.specs.declared.request.Request.the-variants.{Record};
 ghost use Rattle.calls.specs.Buffers.{lent, noFacts};
 ghost use Rattle.calls.specs.Refusal.{first};
 ghost use Rattle.calls.specs.Conditions.{stateConditions};

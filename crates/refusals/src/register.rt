@@ -1,5 +1,5 @@
 // The refusals of register: 4, 6, 7 and 11. It is lent the ledger only.
-ghost use Rattle.formats.specs.declared.request.Request.the-variants.{Register};
+ghost use Rattle.requests.specs.declared.request.Request.the-variants.{Register};
 ghost use Rattle.refusals.specs.Ledger.{RefusedByLedger};
 use calls::argument;
 use formats::facts::ContentId;

@@ -1,7 +1,7 @@
 // What a till written in C calls: formatting, the seven calls and the tally, over its own buffers and plain numbers. Each
 // function only hands on what it was given; include/music_counter.h has the same ten in C.
 ghost use mathlib.Core.Path.{_≡_};
-ghost use Rattle.formats.specs.declared.request.Request.the-variants.{Register, Record, CheckOut, CheckIn, MoveOut, MoveIn, Delete};
+ghost use Rattle.requests.specs.declared.request.Request.the-variants.{Register, Record, CheckOut, CheckIn, MoveOut, MoveIn, Delete};
 ghost use Rattle.calls.specs.Buffers.{lent};
 ghost use Rattle.tables.specs.Format.{ledgerFormatting, formattedLedger, cardFormatting, formattedTitles, formattedRules};
 ghost use Rattle.tables.specs.Tally.{tallyRefusal};

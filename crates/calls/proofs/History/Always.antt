@@ -16,7 +16,7 @@ use Rattle.formats.specs.Entry.{entryFacts}
 use Rattle.formats.specs.Head.{rowsOf}
 use Rattle.formats.specs.Row.{stateOf}
 use Rattle.formats.specs.declared.facts.Facts.{Facts}
-use Rattle.formats.specs.declared.request.Request.{Request}
+use Rattle.requests.specs.declared.request.Request.{Request}
 use Rattle.formats.specs.declared.entry.EntryKind.{EntryKind}
 use Rattle.formats.specs.declared.row.RowState.{RowState}
 use Rattle.formats.specs.declared.row.RowState.the-variants.{Empty, Here, Away, Gone, NoState}

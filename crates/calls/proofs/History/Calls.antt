@@ -4,8 +4,8 @@ use Prim.Native.Nat.{ℕ}
 use mathlib.Core.Path.{_≡_, refl, sym, ap, subst, _∙_}
 use mathlib.Core.Logic.{_≢_, inl, inr}
 use borrow.Author.Tests.{ne-eqb, eqb-true, eqb-false, not-false}
-use Rattle.formats.specs.declared.request.Request.{Request}
-use Rattle.formats.specs.declared.request.Request.the-variants.{Register, Record, CheckOut, CheckIn, MoveOut, MoveIn, Delete}
+use Rattle.requests.specs.declared.request.Request.{Request}
+use Rattle.requests.specs.declared.request.Request.the-variants.{Register, Record, CheckOut, CheckIn, MoveOut, MoveIn, Delete}
 use Rattle.formats.specs.declared.entry.EntryKind.{EntryKind}
 use Rattle.formats.specs.declared.entry.EntryKind.the-variants.{Copy, Full}
 use Rattle.formats.specs.declared.row.RowState.{RowState}

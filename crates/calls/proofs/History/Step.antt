@@ -8,7 +8,7 @@ use native.Mathlib.Omega.{arith}
 use native.Mathlib.Decide.{ℕ-discrete}
 use borrow.Author.Tests.{ne-eqb}
 use Rattle.formats.specs.declared.facts.Facts.{Facts}
-use Rattle.formats.specs.declared.request.Request.{Request}
+use Rattle.requests.specs.declared.request.Request.{Request}
 use Rattle.formats.specs.declared.row.RowState.{RowState}
 use Rattle.calls.specs.Buffers.{total}
 use Rattle.calls.specs.History.{Answered, Log, LastPut, aCopy, theHolder, puts, lastAt, Action, event, actions}

@@ -1,7 +1,7 @@
 -- `music_counter::delete::delete` meets its contract: refused, or done.
 -- Assumes nothing.
 use borrow.Author.Needs.{needs}
-use Rattle.formats.specs.declared.request.Request.the-variants.{Delete}
+use Rattle.requests.specs.declared.request.Request.the-variants.{Delete}
 use Rattle.calls.specs.Buffers.{lent}
 use Rattle.calls.proofs.Passed.{on-card}
 use Rattle.music_counter.proofs.Answers.{refused, done, accepted, titles-room, rules-room, deleted-row}

@@ -1,7 +1,7 @@
 -- `music_counter::move_out::move_out` meets its contract: refused, or done.
 -- Assumes nothing.
 use borrow.Author.Needs.{needs}
-use Rattle.formats.specs.declared.request.Request.the-variants.{MoveOut}
+use Rattle.requests.specs.declared.request.Request.the-variants.{MoveOut}
 use Rattle.calls.specs.Buffers.{lent, contentAt}
 use Rattle.calls.specs.Effect.{effect}
 use Rattle.calls.proofs.Passed.{on-card, its-row}

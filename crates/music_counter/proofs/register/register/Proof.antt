@@ -3,7 +3,7 @@
 use borrow.Author.Needs.{needs}
 use mathlib.Core.Path.{refl}
 use mathlib.Core.List.{[]}
-use Rattle.formats.specs.declared.request.Request.the-variants.{Register}
+use Rattle.requests.specs.declared.request.Request.the-variants.{Register}
 use Rattle.calls.specs.Buffers.{lent}
 use Rattle.calls.specs.Effect.{effect}
 use Rattle.calls.proofs.Passed.{its-row}

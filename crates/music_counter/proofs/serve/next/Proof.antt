@@ -2,7 +2,7 @@
 -- Assumes nothing.
 use borrow.Author.Needs.{needs}
 use mathlib.Core.Path.{sym, ap, _∙_}
-use Rattle.formats.specs.Request.{requestAnswer}
+use Rattle.requests.specs.Request.{requestAnswer}
 use Rattle.music_counter.proofs.Serving.{served-as, set-aside}
 use Rattle.music_counter.proofs.serve.next.Statement.{statement}
 use Rattle.music_counter.proofs.serve.next.Tie as tie

@@ -1,0 +1,33 @@
+-- `requests::number::write` meets its contract: it tests the length and leaves the rest to `write_at`.
+-- Assumes nothing.
+use borrow.Author.Needs.{needs}
+use native.Mathlib.Omega.{arith}
+use denote.Ref.{now}
+use Rattle.requests.specs.Number.{groups}
+use Rattle.formats.proofs.Part.{put-fitting}
+use Rattle.requests.proofs.number.Laws.{too-short, wrote}
+use Rattle.requests.proofs.number.write.Statement.{statement}
+use Rattle.requests.proofs.number.write.Tie as tie
+
+len-requires : tie.Need-len-requires
+len-requires c κs = search needs
+
+returns : tie.Need-returns
+returns c =
+    let a = c .before .before .before .args in
+    too-short (groups (a .x)) (now (a .out)) (omega arith)
+
+write-at-requires : tie.Need-write-at-requires
+write-at-requires c κs = search needs
+
+same-length : tie.Need-same-length
+same-length c = search needs
+
+returns-2 : tie.Need-returns-2
+returns-2 c =
+    let a = c .before .before .before .before .before .before .before .args in
+    let put = put-fitting (now (a .out)) 0 (groups (a .x)) (omega arith) (c .before .before .write-at .ensures) in
+    wrote (groups (a .x)) (now (a .out)) (omega arith) (omega arith) (put .1)
+
+pub write-spec : {M : Type 1} → statement M
+write-spec = tie.close (tie.spec len-requires returns write-at-requires same-length returns-2)

@@ -1,0 +1,95 @@
+-- `requests::request::read` meets its contract: the kind, and then its arguments.
+-- Assumes nothing.
+use Prim.Native.Nat.{_+_}
+use mathlib.Core.Path.{sym, ap, _∙_}
+use native.Mathlib.Omega.{arith}
+use borrow.Author.Needs.{needs}
+use denote.Ref.{now}
+use Rattle.requests.specs.Number.{readAnswer}
+use Rattle.requests.specs.declared.request.Request.{Request}
+use Rattle.requests.specs.declared.request.RequestRead.the-variants.{Read, Refused}
+use Rattle.requests.proofs.number.Laws.{read-within}
+use Rattle.requests.proofs.request.Cases.{kind-refused, kind-limit}
+use Rattle.requests.proofs.request.Reading.{KindRead, request-fault, request-read, request-within}
+use Rattle.requests.proofs.request.read.Statement.{statement}
+use Rattle.requests.proofs.request.read.Tie as tie
+
+read-requires : tie.Need-read-requires
+read-requires c κs = search needs
+
+enum-known-found : tie.Need-enum-known-found
+enum-known-found c = search needs
+
+enum-told : tie.Need-enum-told
+enum-told c = search needs
+
+number-refusal-requires : tie.Need-number-refusal-requires
+number-refusal-requires c κs = search needs
+
+returns : tie.Need-returns
+returns c =
+    let told = c .before .enum-told .given .1 in
+    let read = c .before .before .before in
+    ap Refused (c .number-refusal .ensures ∙ ap readAnswer told) ∙ sym (kind-refused _ (sym (read .read .ensures) ∙ told))
+
+range-limit-requires : tie.Need-range-limit-requires
+range-limit-requires c κs = search needs
+
+returns-2 : tie.Need-returns-2
+returns-2 c =
+    let x = c .before .before .before in
+    let limit = c .before .range-limit .ensures in
+    ap Refused limit ∙ sym (kind-limit _ (sym (x .before .before .read .ensures) ∙ x .found .given .1) (λ y. c .if1 .taken (limit ∙ y)))
+
+sub-read-arguments : tie.Need-sub-read-arguments
+sub-read-arguments c =
+    let x = c .before .before .before in
+    read-within _ (sym (x .before .before .read .ensures) ∙ x .found .given .1)
+
+part-read-arguments-start : tie.Need-part-read-arguments-start
+part-read-arguments-start c =
+    let x = c .before .before .before in
+    read-within _ (sym (x .before .before .read .ensures) ∙ x .found .given .1)
+
+part-read-arguments-end : tie.Need-part-read-arguments-end
+part-read-arguments-end c = search needs
+
+read-arguments-requires : tie.Need-read-arguments-requires
+read-arguments-requires c κs = search needs
+
+-- what is known once the arguments are read
+kind-read : (c : tie.After-read-arguments) → let x = c .before .before .before .before .before in
+    KindRead (now (x .before .before .before .before .args .s)) (x .found .given .0 .0) (x .found .given .0 .1 .0) (c .read-arguments .result)
+kind-read c =
+    let x = c .before .before .before .before .before in
+    record {
+      number-is = sym (x .before .before .read .ensures) ∙ x .found .given .1;
+      passes = sym (c .before .before .before .range-limit .ensures) ∙ c .before .before .if1 .left;
+      asked = c .read-arguments .ensures;
+    }
+
+returns-3 : tie.Need-returns-3
+returns-3 c = request-fault (kind-read (c .before .before)) (c .if2 .taken)
+
+request-of-requires : tie.Need-request-of-requires
+request-of-requires c κs = search needs
+
+add-t11 : tie.Need-add-t11
+add-t11 c =
+    let e = c .before .before .before in
+    let x = e .before .before .before .before .before .before .before in
+    omega (arith, request-within (kind-read (e .before .before)) (e .if2 .left))
+
+returns-4 : tie.Need-returns-4
+returns-4 c =
+    let e = c .before .before .before in
+    let y = e .before .before in
+    let x = y .before .before .before .before .before in
+    ap (λ (q : Request). Read q (x .found .given .0 .1 .0 + y .read-arguments .result .len)) (c .before .request-of .ensures)
+    ∙ request-read (kind-read y) (e .if2 .left)
+
+pub read-spec : {M : Type 1} → statement M
+read-spec =
+    tie.close
+    (tie.spec read-requires enum-known-found enum-told number-refusal-requires returns range-limit-requires returns-2 sub-read-arguments
+    part-read-arguments-start part-read-arguments-end read-arguments-requires returns-3 request-of-requires add-t11 returns-4)
