@@ -3,7 +3,7 @@
  *
  * A title lives in one place, its holder: a row of the shop's ledger or a full entry of the card. Its permits say how many
  * loan copies may be out, its move rights how often it may move; 15 means unlimited in both. Seven calls change a title,
- * two write a fresh ledger and a fresh card, and one counts copies.
+ * two write a fresh ledger and a fresh card, and one counts copies. Two more read and write the calls as request bytes.
  *
  * Link with libtill.a, which is for Linux on x86-64 and needs no flags: cc till.c libtill.a
  *
@@ -28,7 +28,7 @@
  *
  * - Each pointer points to as many bytes as its length says, readable and (where it is not const) writable. No pointer is
  *   null, also where its length is 0.
- * - The buffers of one call do not overlap, and the number that a tally writes lies in none of them.
+ * - The buffers of one call do not overlap, nor do the places for the numbers that it writes, with them or with each other.
  * - Nobody else writes to the buffers while a call runs, and nobody reads them while a call runs that may write them. Calls
  *   on different buffers may run at the same time: the library keeps nothing between calls.
  *
@@ -71,7 +71,7 @@ extern "C" {
 /* Permits or rights that are not counted down. */
 #define COUNTER_UNLIMITED 15
 
-/* The answers. 1 to 3 are answers to request bytes; no function below has them. */
+/* The answers. 1 to 3 are about request bytes; only the functions that read and write requests have them. */
 enum {
     COUNTER_DONE = 0,           /* done */
     COUNTER_TOO_SHORT = 1,      /* request bytes end inside a request, or there is no room to write one */
@@ -216,6 +216,45 @@ uint64_t counter_delete(uint8_t *ledger, size_t ledger_len, uint8_t *titles, siz
  */
 uint64_t counter_tally(const uint8_t *titles, size_t titles_len, const uint8_t *rules, size_t rules_len, uint64_t content,
                        uint64_t *copies);
+
+/*
+ * REQUESTS
+ *
+ * A request is one of the seven calls as bytes, for a log or a line: its kind and its arguments, each a number in groups of
+ * seven bits, the low group first, with the top bit set in all bytes but the last. Every request has one written form.
+ *
+ *   kind           arguments
+ *   1 register     content, cci, trigger, rights, permits, title_key, sti_key
+ *   2 record       content, entry, cci, trigger, rights, permits, title_key, sti_key, hash
+ *   3 check-out    content, entry
+ *   4 check-in     entry, f1
+ *   5 move out     entry, hash, f1, f2, f3, f4
+ *   6 move in      content, entry, hash
+ *   7 delete       entry, f1, f2, f3, f4
+ */
+#define COUNTER_ARGUMENTS 9
+#define COUNTER_LONGEST_REQUEST 53
+
+/*
+ * Reads the request at the front of bytes.
+ *
+ * Answers, at the first number that is at fault: 1 where the bytes end inside it; 2 where it is not in its shortest form
+ * or above 2^64 - 1; 3 where it is the kind and not 1 to 7; 4, 5 or 6 where it is an argument past its limit.
+ * Done: *kind is the kind; arguments has its arguments in their order and 0 in the places after them; *used is the count
+ * of bytes that the request took: the next one starts there. On a refusal all three keep their values.
+ */
+uint64_t counter_read_request(const uint8_t *bytes, size_t bytes_len, uint64_t *kind, uint64_t arguments[COUNTER_ARGUMENTS],
+                              size_t *used);
+
+/*
+ * Writes a request at the front of bytes. Of the arguments it looks at as many as the kind has; there are always nine places.
+ *
+ * Answers 3 where kind is not 1 to 7; 4, 5 or 6 at the first argument past its limit; then 1 where bytes_len is less than
+ * the request needs, which is at most COUNTER_LONGEST_REQUEST.
+ * Done: *used is the count of bytes written, and no byte after them changes. On a refusal it keeps its value.
+ */
+uint64_t counter_write_request(uint8_t *bytes, size_t bytes_len, uint64_t kind, const uint64_t arguments[COUNTER_ARGUMENTS],
+                               size_t *used);
 
 #ifdef __cplusplus
 }

@@ -1,5 +1,5 @@
-// What a till written in C calls: formatting, the seven calls and the tally, over its own buffers and plain numbers. Each
-// function only hands on what it was given; include/music_counter.h has the same ten in C.
+// What a till written in C calls: formatting, the seven calls, the tally, and reading and writing requests, over its own buffers
+// and plain numbers. Each function only hands on what it was given; include/music_counter.h has the same twelve in C.
 ghost use mathlib.Core.Path.{_≡_};
 ghost use Rattle.requests.specs.declared.request.Request.the-variants.{Register, Record, CheckOut, CheckIn, MoveOut, MoveIn, Delete};
 ghost use Rattle.calls.specs.Buffers.{lent};
@@ -8,10 +8,14 @@ ghost use Rattle.tables.specs.Tally.{tallyRefusal};
 ghost use Rattle.music_counter.specs.Answer.{Answers, AnswersByLedger};
 ghost use Rattle.till.specs.Given.{title, place, facts, fillers};
 ghost use Rattle.till.specs.Tally.{copiesAfter};
+ghost use Rattle.requests.specs.Number.{writeAnswer};
+ghost use Rattle.requests.specs.Request.{readRequest, requestAnswer};
+ghost use Rattle.till.specs.Requests.{kindAfter, argumentsAfter, usedAfter, writingNumbers, numbersWrittenTo, countAfter};
 use formats::facts::ContentId;
 use formats::facts::EntryNumber;
 use formats::facts::Facts;
 use formats::facts::Fillers;
+use formats::refusal;
 use music_counter::check_in;
 use music_counter::check_out;
 use music_counter::delete;
@@ -19,6 +23,9 @@ use music_counter::move_in;
 use music_counter::move_out;
 use music_counter::record;
 use music_counter::register;
+use requests::number::Written;
+use requests::request;
+use requests::request::RequestRead;
 use tables::format;
 use tables::tally;
 use tables::tally::Tallied;
@@ -210,5 +217,60 @@ pub extern "C" fn counter_tally(titles: &[u8], rules: &[u8], content: u64, copie
             0
         }
         Tallied::Refused(w) => w,
+    }
+}
+
+// Answers 0, or 1 to 6 with nothing changed.
+#[no_mangle]
+pub extern "C" fn counter_read_request(
+    bytes: &[u8],
+    kind: &mut u64,
+    arguments: &mut [u64; 9],
+    used: &mut usize,
+) -> u64
+    ensures { λ r. ⌜ r ≡ requestAnswer (readRequest (now (bytes .entry))) ⌝ }
+    ensures { λ _. ⌜ now (kind .exit) ≡ kindAfter (readRequest (now (bytes .entry))) (now (kind .entry)) ⌝ }
+    ensures { λ _. ⌜ now (arguments .exit) ≡ argumentsAfter (readRequest (now (bytes .entry))) (now (arguments .entry)) ⌝ }
+    ensures { λ _. ⌜ now (used .exit) ≡ usedAfter (readRequest (now (bytes .entry))) (now (used .entry)) ⌝ }
+{
+    let found = request::read(bytes);
+    match found {
+        RequestRead::Read { request, len } => {
+            let numbers = request::numbers_of(request);
+            let values = numbers.values;
+            *kind = numbers.kind;
+            *arguments = values;
+            *used = len;
+            0
+        }
+        RequestRead::Refused(w) => w,
+    }
+}
+
+// Answers 0, or 3, 4, 5, 6 or 1 with nothing changed.
+#[no_mangle]
+pub extern "C" fn counter_write_request(
+    bytes: &mut [u8],
+    kind: u64,
+    arguments: &[u64; 9],
+    used: &mut usize,
+) -> u64
+    ensures { λ r. ⌜ r ≡ writeAnswer (writingNumbers kind (now (arguments .entry)) (now (bytes .entry))) ⌝ }
+    ensures { λ _. ⌜ now (bytes .exit) ≡ numbersWrittenTo kind (now (arguments .entry)) (now (bytes .entry)) ⌝ }
+    ensures { λ _. ⌜ now (used .exit) ≡ countAfter (writingNumbers kind (now (arguments .entry)) (now (bytes .entry))) (now (used .entry)) ⌝ }
+{
+    if kind < 1 {
+        return refusal::KIND;
+    }
+    if 7 < kind {
+        return refusal::KIND;
+    }
+    let written = request::write(request::request_of(kind, *arguments), bytes);
+    match written {
+        Written::Wrote(n) => {
+            *used = n;
+            0
+        }
+        Written::Refused(w) => w,
     }
 }

@@ -1,0 +1,37 @@
+-- `till::counter_read_request` meets its contract: the request's numbers are stored, or what stood in their places is left.
+-- Assumes nothing.
+use borrow.Author.Needs.{needs}
+use Rattle.till.proofs.Requests.{told, kept}
+use Rattle.till.proofs.counter_read_request.Statement.{statement}
+use Rattle.till.proofs.counter_read_request.Tie as tie
+
+read-requires : tie.Need-read-requires
+read-requires c κs = search needs
+
+enum-known-found : tie.Need-enum-known-found
+enum-known-found c = search needs
+
+numbers-of-requires : tie.Need-numbers-of-requires
+numbers-of-requires c κs = search needs
+
+enum-known-found-2 : tie.Need-enum-known-found-2
+enum-known-found-2 c = search needs
+
+returns : tie.Need-returns
+returns c =
+    let f = c .before .before .before in
+    told _ _ _ _ (f .found .given .1) (f .before .before .read .ensures) (c .before .numbers-of .ensures)
+
+returns-2 : tie.Need-returns-2
+returns-2 c = kept _ _ _ _ (c .before .found2 .given .1) (c .before .before .before .read .ensures)
+
+pub counter-read-request-spec : {M : Type 1} → statement M
+counter-read-request-spec =
+    tie.close
+    (tie.spec
+    read-requires
+    enum-known-found
+    numbers-of-requires
+    enum-known-found-2
+    returns
+    returns-2)
