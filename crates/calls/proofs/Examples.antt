@@ -7,7 +7,8 @@ use mathlib.Core.List.{List, _++_}
 use mathlib.Core.Bool.{Bool, true, false, not, _&&_, _||_, true≢false}
 use native.Mathlib.Omega.{arith}
 use native.Mathlib.Decide.{ℕ-discrete}
-use lib.Dec.{eqb}
+use lib.Dec.{leb, eqb}
+use lib.ListN.{length}
 use borrow.Author.Tests.{eq-eqb, eqb-true}
 use Rattle.formats.specs.Field.{number, bytesOf}
 use Rattle.formats.specs.Half.{halfBytes, flagOf, usableOf, idOf}
@@ -25,7 +26,7 @@ use Rattle.formats.specs.declared.row.RowState.the-variants.{Here}
 use Rattle.formats.specs.declared.entry.EntryKind.the-variants.{Torn}
 use Rattle.requests.specs.declared.request.Request.{Request}
 use Rattle.requests.specs.declared.request.Request.the-variants.{Register, Record, CheckOut, CheckIn, MoveOut, MoveIn, Delete}
-use Rattle.formats.proofs.Tests.{both, refuted, either}
+use Rattle.formats.proofs.Tests.{both, and-false, refuted, either}
 use Rattle.formats.proofs.entry.Laws.{kind-copy, torn-cci, torn-ids}
 use Rattle.formats.proofs.head.Laws.{table-head, rules-head, rules-pass}
 use Rattle.formats.proofs.facts.Laws.{in-range, permitting}
@@ -196,7 +197,7 @@ torn-by t r t-yes r-yes in-range other =
 
 unusable : (h : List ℕ) → flagOf h ≡ true → idOf h ≡ 0 → usableOf h ≡ false
 unfolding usableOf
-unusable h flag none = simp (flag, none)
+unusable h flag none = simp (flag, none) (and-false (leb 16 (length h)))
 
 example-8 : E8
 example-8 = (

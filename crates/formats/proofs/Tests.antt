@@ -16,6 +16,11 @@ split false b e = absurd (true≢false (sym e))
 pub both : {a b : Bool} → a ≡ true → b ≡ true → (a && b) ≡ true
 both {a} {b} p q = ap (λ (x : Bool). x && b) p ∙ q
 
+-- a whole whose second part fails is false
+pub and-false : (a : Bool) → (a && false) ≡ false
+and-false true = refl
+and-false false = refl
+
 -- a test that cannot hold is false
 pub refuted : {a : Bool} → (a ≡ true → ⊥) → a ≡ false
 refuted {a = true} h = absurd (h refl)

@@ -19,9 +19,17 @@ flagOf h = leb 128 (getD h 8 0)
 abbrev pub idOf : List ℕ → ℕ
 idOf h = getD h 14 0 % 4 * 256 + getD h 15 0
 
--- "A half is usable if its flag is 1 and its content ID is not 0."
+-- "A half is usable if its flag is 1 and its content ID is not 0": with all of its first 16 bytes there
 unfoldable pub usableOf : List ℕ → Bool
-usableOf h = flagOf h && not (eqb (idOf h) 0)
+usableOf h = leb 16 (length h) && (flagOf h && not (eqb (idOf h) 0))
+
+-- the content ID of a usable half, 0 for any other
+abbrev pub usableId : List ℕ → ℕ
+usableId h = cond (usableOf h) (idOf h) 0
+
+-- flag 1 and the content ID c, from 1 to 999: what the title half of every copy of c has
+unfoldable pub flaggedWith : ℕ → List ℕ → Bool
+flaggedWith c h = (leb 1 c && leb c 999) && (usableOf h && eqb (idOf h) c)
 
 -- "A written half gets its fields, flag 1, ID c, all reserved bits 0": the first 16 bytes
 unfoldable pub halfBytes : ℕ → ℕ → ℕ → List ℕ

@@ -2,7 +2,7 @@
 use Prim.Native.Nat.{ℕ, _%_}
 use mathlib.Core.List.{List, [], _∷_, _++_}
 use mathlib.Core.Bool.{cond}
-use lib.ListN.{getD, replicate}
+use lib.ListN.{length, getD, replicate}
 use lib.Dec.{eqb}
 use Rattle.formats.specs.Part.{part, put}
 use Rattle.formats.specs.Field.{number, bytesOf}
@@ -25,11 +25,15 @@ factsOf row =
 
 -- "byte 0 state (0 empty, 1 here, 2 away on the card, 3 gone)"; "A row is here exactly when byte 0 is 1, CCI is 0, 2
 -- or 3, trigger at most 1, rights and permits at most 15"; "a byte 0 above 3 is no state"
-unfoldable pub stateOf : List ℕ → RowState
-stateOf row =
+abbrev pub stateBy : List ℕ → RowState
+stateBy row =
     cond (eqb (getD row 0 0) 0) Empty
     (cond (eqb (getD row 0 0) 1) (cond (inRange (factsOf row)) (Here (factsOf row)) NoState)
     (cond (eqb (getD row 0 0) 2) Away (cond (eqb (getD row 0 0) 3) Gone NoState)))
+
+-- and bytes that are not 24 are none
+unfoldable pub stateOf : List ℕ → RowState
+stateOf row = cond (eqb (length row) 24) (stateBy row) NoState
 
 -- a row that is here with the facts f, all 24 bytes
 unfoldable pub hereRow : Facts → List ℕ

@@ -17,27 +17,28 @@ pub enum EntryKind {
     Torn,
 }
 
-// The title half is tested first: where it is not usable, only the rule half's flag and ID are looked at.
+// A half that is not usable has ID 0 here, which no usable half has.
 pub fn kind(title: &[u8], rule: &[u8]) -> EntryKind
     ensures { λ r. ⌜ r ≡ kindOf (now (title .entry)) (now (rule .entry)) ⌝ }
 {
-    let id = half::content_id(title).0;
-    if !half::usable(title) {
-        if half::usable(rule) {
-            return EntryKind::Torn;
+    let title_id = half::usable_id(title);
+    let rule_id = half::usable_id(rule);
+    if title_id == 0 {
+        if rule_id == 0 {
+            return EntryKind::Free;
         }
-        return EntryKind::Free;
+        return EntryKind::Torn;
     }
-    if 999 < id {
+    if 999 < title_id {
         return EntryKind::Torn;
     }
     if title::cci(title) == 1 {
         return EntryKind::Torn;
     }
-    if !half::usable(rule) {
+    if rule_id == 0 {
         return EntryKind::Copy;
     }
-    if half::content_id(rule).0 == id {
+    if rule_id == title_id {
         return EntryKind::Full;
     }
     EntryKind::Torn

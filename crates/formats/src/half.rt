@@ -4,7 +4,7 @@ ghost use mathlib.Core.Path.{_≡_};
 ghost use Prim.Native.Nat.{_+_, _*_, _%_};
 ghost use lib.Dec.{leb};
 ghost use Rattle.formats.specs.Part.{put};
-ghost use Rattle.formats.specs.Half.{keyOf, flagOf, idOf, usableOf, halfBytes, wiped, changedHalf};
+ghost use Rattle.formats.specs.Half.{keyOf, flagOf, idOf, usableOf, usableId, flaggedWith, halfBytes, wiped, changedHalf};
 use crate::facts::ContentId;
 use crate::field;
 use crate::table;
@@ -25,7 +25,10 @@ fn ten_bits(high: u8, low: u8) -> u64
 pub fn key(half: &[u8]) -> u64
     ensures { λ r. ⌜ r ≡ keyOf (now (half .entry)) ⌝ }
 {
-    field::read_at(half, 1, 7)
+    if half.len() < 8 {
+        return field::read_at(half, 1, 7);
+    }
+    field::read_at(half, 0, 8) & 0xff_ffff_ffff_ffff
 }
 
 pub fn flag(half: &[u8]) -> bool
@@ -37,20 +40,56 @@ pub fn flag(half: &[u8]) -> bool
 pub fn content_id(half: &[u8]) -> ContentId
     ensures { λ r. ⌜ r .0 ≡ idOf (now (half .entry)) ⌝ }
 {
-    ContentId(ten_bits(table::byte(half, 14), table::byte(half, 15)))
+    if half.len() < 16 {
+        return ContentId(ten_bits(table::byte(half, 14), table::byte(half, 15)));
+    }
+    ContentId(field::read_at(half, 8, 8) & 0x3ff)
 }
 
+// Flag and ID together are above the flag alone.
 pub fn usable(half: &[u8]) -> bool
     ensures { λ r. ⌜ r ≡ usableOf (now (half .entry)) ⌝ }
 {
-    if flag(half) {
-        return content_id(half).0 != 0;
+    if half.len() < 16 {
+        return false;
     }
-    false
+    0x8000_0000_0000_0000 < field::read_at(half, 8, 8) & 0x8000_0000_0000_03ff
 }
 
-// Writes the first 16 bytes of a half: `first`, the key, flag 1, the content ID, and 0 in every reserved bit. Bytes 8 to 15
-// are one field, with the flag at its top and the content ID at its bottom.
+// The content ID of a usable half, 0 for any other.
+pub fn usable_id(half: &[u8]) -> u64
+    ensures { λ r. ⌜ r ≡ usableId (now (half .entry)) ⌝ }
+{
+    if half.len() < 16 {
+        return 0;
+    }
+    let tail = field::read_at(half, 8, 8);
+    if tail < 0x8000_0000_0000_0000 {
+        return 0;
+    }
+    tail & 0x3ff
+}
+
+// Whether a half has flag 1 and this content ID, from 1 to 999. Flag and ID are compared at once, in the order of their bytes.
+pub fn is_flagged(half: &[u8], content: ContentId) -> bool
+    ensures { λ r. ⌜ r ≡ flaggedWith (content .0) (now (half .entry)) ⌝ }
+{
+    let id = content.0;
+    if half.len() < 16 {
+        return false;
+    }
+    if id < 1 {
+        return false;
+    }
+    if 999 < id {
+        return false;
+    }
+    let tail = field::swapped(field::read_at(half, 8, 8));
+    tail & 0xff03_0000_0000_0080 == field::swapped(0x8000_0000_0000_0000 | id)
+}
+
+// Writes the first 16 bytes of a half: `first`, the key, flag 1, the content ID, and 0 in every reserved bit. Bytes 0 to 7 are
+// one field, and so are 8 to 15, with the flag at its top and the content ID at its bottom.
 pub fn write(half: &mut [u8], first: u8, key: u64, content: ContentId)
     ensures { λ _. ⌜ now (half .exit) ≡ changedHalf (put (now (half .entry)) 0 (halfBytes first key (content .0))) (now (half .entry)) ⌝ }
 {
@@ -58,8 +97,10 @@ pub fn write(half: &mut [u8], first: u8, key: u64, content: ContentId)
         return;
     }
     let id = content.0;
-    half[0] = first;
-    field::write(&mut half[1..8], key);
+    field::write(
+        &mut half[0..8],
+        ((first as u64) << 56) | (key & 0xff_ffff_ffff_ffff),
+    );
     field::write(&mut half[8..16], 0x8000_0000_0000_0000 | (id & 0x3ff));
 }
 

@@ -1,9 +1,8 @@
 // The heads of the ledger and of the two card tables. A buffer that is too short for its head is refused and not read.
 ghost use mathlib.Core.Path.{_≡_};
-ghost use Rattle.formats.specs.Head.{ledgerApplication, rowsOf, ledgerAnswer, tablePasses, titlesAnswer, rulesApplication, rulesAnswer, rulesAnswerFor};
+ghost use Rattle.formats.specs.Head.{ledgerApplication, rowsOf, ledgerAnswer, titlesAnswer, rulesApplication, rulesAnswer, rulesAnswerFor};
 use crate::field;
 use crate::refusal;
-use crate::table;
 
 // The ledger's application number.
 pub fn ledger_application(ledger: &[u8]) -> u64
@@ -39,42 +38,20 @@ pub fn check_ledger(ledger: &[u8]) -> u64
     0
 }
 
-// What the heads of both card tables have: identifier, size, count of entries, length of an entry, mark.
-fn check_table(table: &[u8], identifier: u64, size: usize, width: u8, mark: u8) -> bool
-    ensures { λ r. ⌜ r ≡ tablePasses identifier size width mark (now (table .entry)) ⌝ }
-{
-    if table.len() != size {
-        return false;
-    }
-    if field::read_at(table, 0, 2) != identifier {
-        return false;
-    }
-    if field::read_at(table, 4, 4) != size as u64 {
-        return false;
-    }
-    if field::read_at(table, 10, 2) != 999 {
-        return false;
-    }
-    if table::byte(table, 12) != width {
-        return false;
-    }
-    table::byte(table, 13) == mark
-}
-
-// 0 where the title table's length and head are right, else 8.
+// 0 where the title table's length and head are right, else 8. The head is compared eight bytes at a time.
 pub fn check_titles(titles: &[u8]) -> u64
     ensures { λ r. ⌜ r ≡ titlesAnswer (now (titles .entry)) ⌝ }
 {
-    if !check_table(titles, 0x4131, 16000, 16, 0x01) {
+    if titles.len() != 16000 {
         return refusal::TITLES;
     }
-    let version = titles[3];
-    if version != 0x09 {
-        if version != 0x10 {
+    let front = field::read_at(titles, 0, 8) & 0xffff_00ff_ffff_ffff;
+    if front != 0x4131_0010_0000_3e80 {
+        if front != 0x4131_0009_0000_3e80 {
             return refusal::TITLES;
         }
     }
-    if field::read_at(titles, 8, 2) != 0 {
+    if field::read_at(titles, 8, 8) >> 16 != 0x03e7_1001 {
         return refusal::TITLES;
     }
     0
@@ -92,10 +69,16 @@ pub fn rules_application(rules: &[u8]) -> u64
 pub fn check_rules(rules: &[u8]) -> u64
     ensures { λ r. ⌜ r ≡ rulesAnswer (now (rules .entry)) ⌝ }
 {
-    if !check_table(rules, 0x4D31, 32000, 32, 0x02) {
+    if rules.len() != 32000 {
+        return refusal::RULES;
+    }
+    if field::read_at(rules, 0, 8) & 0xffff_0000_ffff_ffff != 0x4d31_0000_0000_7d00 {
         return refusal::RULES;
     }
     if rules[3] < 0x11 {
+        return refusal::RULES;
+    }
+    if (field::read_at(rules, 8, 8) >> 16) & 0xffff_ffff != 0x03e7_2002 {
         return refusal::RULES;
     }
     0

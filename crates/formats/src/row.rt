@@ -1,11 +1,12 @@
 // A row of the ledger: the 24 bytes of it that a title has. A part of another length is left as it is.
 ghost use mathlib.Core.Path.{_≡_};
+ghost use Prim.Native.Nat.{_+_, _*_, _%_, _^_};
+ghost use lib.ListN.{length};
 ghost use Rattle.formats.specs.Part.{replaced};
 ghost use Rattle.formats.specs.Facts.{inRange};
 ghost use Rattle.formats.specs.Row.{factsOf, stateOf, hereRow, plainRow, withPermits};
 use crate::facts::Facts;
 use crate::field;
-use crate::table;
 
 pub enum RowState {
     Empty,
@@ -48,22 +49,26 @@ pub fn in_range(facts: Facts) -> bool
 }
 
 fn facts(row: &[u8]) -> Facts
+    requires { ⌜ length (now row) ≡ 24 ⌝ }
     ensures { λ r. ⌜ r ≡ factsOf (now (row .entry)) ⌝ }
 {
     Facts {
-        cci: table::byte(row, 1) as u64,
-        trigger: table::byte(row, 2) as u64,
-        rights: table::byte(row, 3) as u64,
-        permits: table::byte(row, 4) as u64,
-        title_key: field::read_at(row, 8, 7),
-        sti_key: field::read_at(row, 16, 7),
+        cci: row[1] as u64,
+        trigger: row[2] as u64,
+        rights: row[3] as u64,
+        permits: row[4] as u64,
+        title_key: field::read_at(row, 8, 8) >> 8,
+        sti_key: field::read_at(row, 16, 8) >> 8,
     }
 }
 
 pub fn state(row: &[u8]) -> RowState
     ensures { λ r. ⌜ r ≡ stateOf (now (row .entry)) ⌝ }
 {
-    let first = table::byte(row, 0);
+    if row.len() != 24 {
+        return RowState::NoState;
+    }
+    let first = row[0];
     if first == EMPTY {
         return RowState::Empty;
     }
@@ -83,6 +88,17 @@ pub fn state(row: &[u8]) -> RowState
     RowState::NoState
 }
 
+// Bytes 0 to 7 of a row that is here, as one field.
+fn here(facts: Facts) -> u64
+    ensures { λ r. ⌜ r ≡ 2 ^ 56 + facts .cci % 256 * 2 ^ 48 + facts .trigger % 256 * 2 ^ 40 + facts .rights % 256 * 2 ^ 32 + facts .permits % 256 * 2 ^ 24 ⌝ }
+{
+    0x100_0000_0000_0000
+        | ((facts.cci & 0xff) << 48)
+        | ((facts.trigger & 0xff) << 40)
+        | ((facts.rights & 0xff) << 32)
+        | ((facts.permits & 0xff) << 24)
+}
+
 // Writes all 24 bytes of a row that is here.
 pub fn write_here(row: &mut [u8], facts: Facts)
     ensures { λ _. ⌜ now (row .exit) ≡ replaced 24 (hereRow facts) (now (row .entry)) ⌝ }
@@ -90,16 +106,9 @@ pub fn write_here(row: &mut [u8], facts: Facts)
     if row.len() != 24 {
         return;
     }
-    row[0] = HERE;
-    row[1] = field::low_byte(facts.cci);
-    row[2] = field::low_byte(facts.trigger);
-    row[3] = field::low_byte(facts.rights);
-    row[4] = field::low_byte(facts.permits);
-    field::write(&mut row[5..8], 0);
-    field::write(&mut row[8..15], facts.title_key);
-    row[15] = 0;
-    field::write(&mut row[16..23], facts.sti_key);
-    row[23] = 0;
+    field::write(&mut row[0..8], here(facts));
+    field::write(&mut row[8..16], facts.title_key << 8);
+    field::write(&mut row[16..24], facts.sti_key << 8);
 }
 
 // Writes all 24 bytes of a row in another state: its number, and zeros.
@@ -109,12 +118,9 @@ pub fn write_plain(row: &mut [u8], state: u8)
     if row.len() != 24 {
         return;
     }
-    row[0] = state;
-    let mut i: usize = 1;
-    while i < 24 {
-        row[i] = 0;
-        i += 1;
-    }
+    field::write(&mut row[0..8], (state as u64) << 56);
+    field::write(&mut row[8..16], 0);
+    field::write(&mut row[16..24], 0);
 }
 
 // Writes byte 4 and no other.

@@ -1,6 +1,6 @@
 // The rule half of an entry: the 32 bytes of the rule table that it occupies. A part of another length is left as it is.
 ghost use mathlib.Core.Path.{_≡_};
-ghost use Prim.Native.Nat.{_+_, _*_, _%_};
+ghost use Prim.Native.Nat.{_+_, _*_, _%_, _^_};
 ghost use Rattle.formats.specs.Part.{replaced};
 ghost use Rattle.formats.specs.Rule.{triggerOf, rightsOf, permitsOf, hashOf, ruleHalf, wipedRule};
 use crate::facts::ContentId;
@@ -35,11 +35,11 @@ pub fn hash(rule: &[u8]) -> u64
     field::read_at(rule, 18, 8)
 }
 
-// Move rights and permits in one byte.
-fn counts(rights: u64, permits: u64) -> u8
-    ensures { λ r. ⌜ r ≡ rights % 16 * 16 + permits % 16 ⌝ }
+// Trigger, move rights and permits in bytes 16 and 17, the top of a field of eight bytes.
+fn counts(facts: Facts) -> u64
+    ensures { λ r. ⌜ r ≡ (facts .trigger % 2 * 32768 + facts .rights % 16 * 16 + facts .permits % 16) * 2 ^ 48 ⌝ }
 {
-    (((rights & 0x0f) << 4) | (permits & 0x0f)) as u8
+    ((facts.trigger & 1) << 63) | ((facts.rights & 0x0f) << 52) | ((facts.permits & 0x0f) << 48)
 }
 
 // Writes a rule half, usable from then on.
@@ -50,10 +50,8 @@ pub fn write(rule: &mut [u8], facts: Facts, hash: u64, content: ContentId)
         return;
     }
     half::write(&mut *rule, 0, facts.sti_key, content);
-    rule[16] = ((facts.trigger & 1) << 7) as u8;
-    rule[17] = counts(facts.rights, facts.permits);
-    field::write(&mut rule[18..26], hash);
-    field::write(&mut rule[26..32], 0);
+    field::write(&mut rule[16..24], counts(facts) | (hash >> 16));
+    field::write(&mut rule[24..32], hash << 48);
 }
 
 // Writes f2 over bytes 0 to 7 and f3 and f4 over bytes 16 to 31, and clears the flag. Every other bit stays.

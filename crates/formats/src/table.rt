@@ -21,7 +21,7 @@ pub fn part(s: &[u8], start: usize, length: usize) -> &[u8]
     if size <= start {
         return &s[size..];
     }
-    if size - start <= length {
+    if size - start < length {
         return &s[start..];
     }
     &s[start..start + length]

@@ -5,7 +5,6 @@ ghost use Rattle.calls.specs.Buffers.{lent};
 ghost use Rattle.calls.specs.Refusal.{first};
 ghost use Rattle.calls.specs.Conditions.{stateConditions};
 ghost use Rattle.calls.specs.Perform.{refusal};
-use calls::count;
 use formats::facts::EntryNumber;
 use formats::facts::Fillers;
 use formats::refusal;
@@ -28,7 +27,7 @@ fn state(
     if !ledger::is_away(ledger::state(ledger, card::content(titles, entry))) {
         return refusal::STATE_OF_ROW;
     }
-    if count::may_not_move(card::facts(titles, rules, entry)) {
+    if card::may_not_move(rules, entry) {
         return refusal::NOTHING_LEFT;
     }
     if hash != card::hash(rules, entry) {

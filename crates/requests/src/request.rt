@@ -159,7 +159,8 @@ fn argument_limit(argument: Argument, value: u64) -> u64
     }
 }
 
-fn numbers_of(request: Request) -> Numbers
+// A request as numbers.
+pub fn numbers_of(request: Request) -> Numbers
     ensures { λ r. ⌜ Holds request (r .kind) (r .values) ⌝ }
 {
     match request {

@@ -1,3 +1,5 @@
 pub mod Fresh
 pub mod Counting
+pub mod Three
+pub mod Rows
 pub mod History

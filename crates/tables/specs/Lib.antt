@@ -1,3 +1,4 @@
+pub mod Copies
 pub mod Format
 pub mod Tally
 pub mod History

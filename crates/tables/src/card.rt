@@ -4,7 +4,9 @@ ghost use Rattle.formats.specs.Half.{idOf};
 ghost use Rattle.formats.specs.Rule.{hashOf};
 ghost use Rattle.formats.specs.Entry.{kindOf, entryFacts};
 ghost use Rattle.calls.specs.Buffers.{titleAt, ruleAt, isFree, isCopy, isFull};
-ghost use Rattle.calls.specs.Conditions.{leavesKey};
+ghost use Rattle.calls.specs.Conditions.{leavesKey, mayNotMove};
+ghost use Prim.Native.Nat.{ℕ};
+ghost use mathlib.Core.List.{List};
 use formats::entry;
 use formats::entry::EntryKind;
 use formats::facts::ContentId;
@@ -57,6 +59,17 @@ pub fn facts(titles: &[u8], rules: &[u8], entry: EntryNumber) -> Facts
     ensures { λ r. ⌜ r ≡ entryFacts (titleAt (now (titles .entry)) (entry .0)) (ruleAt (now (rules .entry)) (entry .0)) ⌝ }
 {
     entry::facts(title_half(titles, entry), rule_half(rules, entry))
+}
+
+// Whether a full entry may not move: its trigger is 1, or no move right is left. Both stand in its rule half.
+pub fn may_not_move(rules: &[u8], entry: EntryNumber) -> bool
+    ensures { λ r. ⌜ ((title : List ℕ) → r ≡ mayNotMove (entryFacts title (ruleAt (now (rules .entry)) (entry .0)))) ⌝ }
+{
+    let rule = rule_half(rules, entry);
+    if rule::trigger(rule) == 1 {
+        return true;
+    }
+    rule::rights(rule) == 0
 }
 
 // The C_HASH in an entry's rule half.

@@ -31,7 +31,7 @@ pub fn state(ledger: &[u8], content: ContentId) -> RowState
     if head::rows(ledger) < id {
         return RowState::NoState;
     }
-    row::state(row_part(ledger, content))
+    row::state(table::part(ledger, 24 * (id as usize), 24))
 }
 
 pub fn is_empty(state: RowState) -> bool

@@ -1,37 +1,49 @@
--- `formats::field::read` meets its contract: the loop keeps the number of the bytes passed.
+-- `formats::field::read` meets its contract: eight bytes at once, or a loop that keeps the number of the bytes passed.
 -- Assumes nothing.
-use Prim.Native.Nat.{_-_, _≤_}
-use mathlib.Core.Path.{ap, _∙_}
+use Prim.Native.Nat.{ℕ, _-_, _≤_}
+use mathlib.Core.Path.{_≡_, sym, ap, _∙_}
 use native.Mathlib.Omega.{arith}
-use borrow.Author.Needs.{needs}
 use denote.Ref.{now}
-use lib.Dec.{lit≤}
-use lib.ListN.{length, getD}
+use borrow.Author.Needs.{needs}
+use lib.ListN.{length}
 use lib.Seq.{take-all}
-use Rattle.formats.specs.Field.{number}
-use Rattle.formats.proofs.Bits.{joined}
-use Rattle.formats.proofs.Part.{part-most}
-use Rattle.formats.proofs.field.Laws.{Reading, read-start, read-next, read-fits}
+use Rattle.formats.specs.Part.{part}
+use Rattle.formats.specs.Field.{number, bytesOf, little}
+use Rattle.formats.proofs.Part.{part-length}
+use Rattle.formats.proofs.Bytes.{bytes-part}
+use Rattle.formats.proofs.field.Laws.{little-swapped, Reading, read-start, read-next, read-fits}
 use Rattle.formats.proofs.field.read.Statement.{statement}
 use Rattle.formats.proofs.field.read.Tie as tie
 
 abbrev Inv-loop : tie.InvT-loop
-Inv-loop field counted value₀ i₀ value i = (i ≤ length counted) × Reading counted value i
+Inv-loop field value₀ i₀ value i = (i ≤ length field) × Reading field value i
 
 abbrev μ-loop : tie.MeasureT-loop
-μ-loop field counted value₀ i₀ value i = length counted - i
+μ-loop field value₀ i₀ value i = length field - i
 
-part-requires : tie.Need-part-requires Inv-loop μ-loop
-part-requires c κs = search needs
+read-little-requires : tie.Need-read-little-requires Inv-loop μ-loop
+read-little-requires c κs = omega arith
+
+swapped-requires : tie.Need-swapped-requires Inv-loop μ-loop
+swapped-requires c κs = search needs
+
+returns : tie.Need-returns Inv-loop μ-loop
+returns c =
+    let known = c .before .before .before in
+    let l = now (known .before .args .field) in
+    let size : length (part l 0 8) ≡ 8 = part-length 0 8 l (c .before .before .if1 .taken) in
+    c .swapped .ensures
+    ∙ ap (λ (x : ℕ). little (bytesOf 8 x)) (c .before .read-little .ensures)
+    ∙ little-swapped (part l 0 8) size (bytes-part l 0 8 (λ i. known .shared-slice-known .given i .fits))
 
 loop-holds : tie.Need-loop-holds Inv-loop μ-loop
 loop-holds c = (omega arith, read-start _)
 
-shared-slice-read-value : tie.Need-shared-slice-read-value Inv-loop μ-loop
-shared-slice-read-value c = omega arith
+shared-slice-read-append : tie.Need-shared-slice-read-append Inv-loop μ-loop
+shared-slice-read-append c = omega arith
 
-cast-value : tie.Need-cast-value Inv-loop μ-loop
-cast-value c = omega (arith, c .shared-slice-known2 .given (c .before .before .loop .i))
+append-requires : tie.Need-append-requires Inv-loop μ-loop
+append-requires c κs = let l = c .before .before in read-fits (l .loop .inv .1) (omega (arith, l .before .if1 .left))
 
 add-i : tie.Need-add-i Inv-loop μ-loop
 add-i c = omega arith
@@ -41,19 +53,14 @@ loop-less c = omega arith
 
 loop-again : tie.Need-loop-again Inv-loop μ-loop
 loop-again c =
-    let l = c .before .before .loop in
-    let byte = c .shared-slice-known2 .given (l .i) .fits in
-    let here = c .before .loop-test .taken in
-    let part = c .before .before .before .part in
-    let counted = part .result .now in
-    let few : length counted ≤ 8 = rw (part .ensures) (part-most 0 8 (now (c .before .before .before .before .before .args .field))) in
-    (omega arith, rw (joined 56 8 64 (l .value) (getD counted (l .i) 0) (read-fits (l .inv .1) (omega arith)) (lit≤ tt) byte) (read-next (l .inv .1) here byte))
+    let l = c .before .before .before .loop in
+    (omega arith, rw (c .append .ensures .0) (read-next (l .inv .1) (c .before .before .loop-test .taken) (c .append .ensures .1)))
 
-returns : tie.Need-returns Inv-loop μ-loop
-returns c =
-    let l = c .before .loop in
-    let part = c .before .before .part in
-    l .inv .1 .so-far ∙ ap number (take-all (l .i) (part .result .now) (c .loop-test .left) ∙ part .ensures)
+returns-2 : tie.Need-returns-2 Inv-loop μ-loop
+returns-2 c =
+    let l = c .before in
+    let field = now (l .before .before .before .args .field) in
+    l .loop .inv .1 .so-far ∙ ap number (take-all (l .loop .i) field (c .loop-test .left) ∙ sym (take-all 8 field (omega (arith, l .before .if1 .left))))
 
 pub read-spec : {M : Type 1} → statement M
 read-spec =
@@ -61,11 +68,13 @@ read-spec =
     (tie.spec
     Inv-loop
     μ-loop
-    part-requires
+    read-little-requires
+    swapped-requires
+    returns
     loop-holds
-    shared-slice-read-value
-    cast-value
+    shared-slice-read-append
+    append-requires
     add-i
     loop-less
     loop-again
-    returns)
+    returns-2)

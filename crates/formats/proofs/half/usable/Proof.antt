@@ -1,24 +1,27 @@
 -- `formats::half::usable` meets its contract.
 -- Assumes nothing.
-use mathlib.Core.Path.{sym, _∙_}
+use Prim.Native.Nat.{ℕ, _+_, _^_}
+use mathlib.Core.Path.{sym, ap, _∙_}
+use denote.Ref.{now}
+use lib.Bits.{bitAnd}
+use lib.Dec.{ltb}
 use borrow.Author.Needs.{needs}
-use Rattle.formats.specs.Half.{usableOf}
+use Rattle.formats.proofs.half.Laws.{cut-short, tail-usable}
 use Rattle.formats.proofs.half.usable.Statement.{statement}
 use Rattle.formats.proofs.half.usable.Tie as tie
 
-flag-requires : tie.Need-flag-requires
-flag-requires c κs = search needs
-
-content-id-requires : tie.Need-content-id-requires
-content-id-requires c κs = search needs
-
 returns : tie.Need-returns
-unfolding usableOf
-returns c = simp (sym (c .before .before .before .flag .ensures) ∙ c .before .before .if1 .taken, c .before .content-id .ensures)
+returns c = sym (cut-short (now (c .before .before .args .half)) (c .if1 .taken))
+
+read-at-requires : tie.Need-read-at-requires
+read-at-requires c κs = search needs
 
 returns-2 : tie.Need-returns-2
-unfolding usableOf
-returns-2 c = simp (sym (c .before .flag .ensures) ∙ c .if1 .left)
+returns-2 c =
+    let known = c .before .before in
+    let h = now (known .before .args .half) in
+    ap (λ (w : ℕ). ltb (2 ^ 63) (bitAnd w (2 ^ 63 + 1023))) (c .read-at .ensures)
+    ∙ tail-usable h (λ i. known .shared-slice-known .given i .fits) (c .before .if1 .left)
 
 pub usable-spec : {M : Type 1} → statement M
-usable-spec = tie.close (tie.spec flag-requires content-id-requires returns returns-2)
+usable-spec = tie.close (tie.spec returns read-at-requires returns-2)

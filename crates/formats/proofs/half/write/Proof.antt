@@ -1,44 +1,40 @@
--- `formats::half::write` meets its contract: the first byte, the key, and bytes 8 to 15 as one field.
+-- `formats::half::write` meets its contract: bytes 0 to 7 as one field, and bytes 8 to 15 as another.
 -- Assumes nothing.
-use Prim.Native.Nat.{ℕ, _+_, _/_, _%_, _^_}
-use mathlib.Core.Path.{_≡_, sym, ap, _∙_}
+use Prim.Native.Nat.{ℕ, _+_, _-_, _*_, _/_, _%_, _^_, _<_}
+use mathlib.Core.Path.{_≡_, refl, sym, ap, ap₂, _∙_}
 use mathlib.Core.List.{List, [], _∷_, _++_}
 use native.Mathlib.Omega.{arith}
 use lib.Bits.{bitAnd, bitOr, and-mask, or-shifted}
-use lib.ListN.{length-set}
+use lib.Dec.{lit≤}
 use borrow.Author.Needs.{needs}
 use Rattle.formats.specs.Part.{put}
 use Rattle.formats.specs.Field.{bytesOf}
 use Rattle.formats.specs.Half.{halfBytes}
-use Rattle.formats.proofs.Writes.{wrote-start, wrote-byte, wrote-field}
-use Rattle.formats.proofs.half.Laws.{changed-half, short-half}
+use Rattle.formats.proofs.Bits.{joined}
+use Rattle.formats.proofs.Writes.{wrote-start, wrote-field}
+use Rattle.formats.proofs.field.Joined.{low-bytes, joined-bytes}
+use Rattle.formats.proofs.half.Laws.{changed-half, short-half, marked}
 use Rattle.formats.proofs.half.write.Statement.{statement}
 use Rattle.formats.proofs.half.write.Tie as tie
+
+-- the first byte above the 56 bits of the key
+front : (first key : ℕ) → first < 256 → bytesOf 8 (bitOr ((first * 2 ^ 56) % 2 ^ 64) (bitAnd key (2 ^ 56 - 1))) ≡ first ∷ bytesOf 7 key
+unfolding bytesOf
+front first key small =
+    let k : key % 2 ^ 56 < 2 ^ 56 = omega arith in
+    let f : first / 2 ^ 0 % 256 ≡ first = omega arith in
+    let m : key % 2 ^ 56 % 2 ^ 56 ≡ key % 2 ^ 56 = omega arith in
+    ap (bytesOf 8)
+    (ap (bitOr ((first * 2 ^ 56) % 2 ^ 64)) (and-mask key 56) ∙ joined 8 56 64 first (key % 2 ^ 56) small (lit≤ tt) k)
+    ∙ joined-bytes 1 7 first (key % 2 ^ 56) k
+    ∙ ap₂ (λ (b : ℕ) (l : List ℕ). b ∷ l) f (low-bytes 7 (key % 2 ^ 56) key m)
 
 -- the flag above the ten bits of the ID
 mark : (id : ℕ) → bitOr (2 ^ 63) (bitAnd id 1023) ≡ 2 ^ 63 + id % 1024
 mark id = ap (bitOr (2 ^ 63)) (and-mask id 10) ∙ or-shifted 1 63 (id % 1024) (omega arith)
 
--- bytes 8 to 15 as one field
-marked : (id : ℕ) → bytesOf 8 (2 ^ 63 + id % 1024) ≡ 128 ∷ 0 ∷ 0 ∷ 0 ∷ 0 ∷ 0 ∷ id / 256 % 4 ∷ id % 256 ∷ []
-unfolding bytesOf
-marked id =
-    let x = 2 ^ 63 + id % 1024 in
-    let byte-8 : x / 2 ^ 56 % 256 ≡ 128 = omega arith in
-    let byte-9 : x / 2 ^ 48 % 256 ≡ 0 = omega arith in
-    let byte-10 : x / 2 ^ 40 % 256 ≡ 0 = omega arith in
-    let byte-11 : x / 2 ^ 32 % 256 ≡ 0 = omega arith in
-    let byte-12 : x / 2 ^ 24 % 256 ≡ 0 = omega arith in
-    let byte-13 : x / 2 ^ 16 % 256 ≡ 0 = omega arith in
-    let byte-14 : x / 2 ^ 8 % 256 ≡ id / 256 % 4 = omega arith in
-    let byte-15 : x / 2 ^ 0 % 256 ≡ id % 256 = omega arith in
-    cc
-
 returns : tie.Need-returns
 returns c = sym (short-half _ _ (omega arith))
-
-slice-write-half : tie.Need-slice-write-half
-slice-write-half c = search needs
 
 sub-write : tie.Need-sub-write
 sub-write c = search needs
@@ -47,7 +43,7 @@ part-write-start : tie.Need-part-write-start
 part-write-start c = search needs
 
 part-write-end : tie.Need-part-write-end
-part-write-end c = simp length-set (omega arith)
+part-write-end c = search needs
 
 write-requires : tie.Need-write-requires
 write-requires c κs = search needs
@@ -59,24 +55,24 @@ part-write-start-2 : tie.Need-part-write-start-2
 part-write-start-2 c = search needs
 
 part-write-end-2 : tie.Need-part-write-end-2
-part-write-end-2 c = omega (arith, simp length-set at (c .before .half .given .1))
+part-write-end-2 c = omega (arith, c .before .half .given .1)
 
 write-requires-2 : tie.Need-write-requires-2
 write-requires-2 c κs = search needs
 
 same-length : tie.Need-same-length
-same-length c = omega (arith, c .before .half2 .given .1, simp length-set at (c .before .before .before .before .before .half .given .1))
+same-length c = omega (arith, c .before .half2 .given .1, c .before .before .before .before .before .half .given .1)
 
 returns-2 : tie.Need-returns-2
 unfolding halfBytes
 returns-2 c =
-    let a = c .before .before .before .before .before .before .before .before .before .before .args in
+    let w1 = c .before .before .before .before .before .before in
+    let a = w1 .before .before .before .before .args in
     let h = a .half .now in
     let id = a .content .0 in
-    let w = wrote-byte (a .first) (wrote-start 0 h (omega arith)) (omega arith) in
-    let v = wrote-field 7 (a .key) w (omega arith) (c .before .before .before .before .before .before .write .ensures) in
-    wrote-field 8 (bitOr (2 ^ 63) (bitAnd id 1023)) v (omega arith) (c .before .before .write2 .ensures) .is
-    ∙ ap (λ (z : List ℕ). put h 0 (a .first ∷ (bytesOf 7 (a .key) ++ z))) (ap (bytesOf 8) (mark id) ∙ marked id)
+    let w = wrote-field 8 (bitOr ((a .first * 2 ^ 56) % 2 ^ 64) (bitAnd (a .key) (2 ^ 56 - 1))) (wrote-start 0 h (omega arith)) (omega arith) (w1 .write .ensures) in
+    wrote-field 8 (bitOr (2 ^ 63) (bitAnd id 1023)) w (omega arith) (c .before .before .write2 .ensures) .is
+    ∙ ap₂ (λ (y z : List ℕ). put h 0 (y ++ z)) (front (a .first) (a .key) (omega arith)) (ap (bytesOf 8) (mark id) ∙ marked id)
     ∙ sym (changed-half (put h 0 (halfBytes (a .first) (a .key) id)) h (omega arith))
 
 pub write-spec : {M : Type 1} → statement M
@@ -84,7 +80,6 @@ write-spec =
     tie.close
     (tie.spec
     returns
-    slice-write-half
     sub-write
     part-write-start
     part-write-end

@@ -1,27 +1,66 @@
--- `formats::head::check_rules` meets its contract.
+-- `formats::head::check_rules` meets its contract: the head's two words are right where its fields are.
 -- Assumes nothing.
+use mathlib.Core.Path.{refl}
 use native.Mathlib.Omega.{arith}
-use Rattle.formats.proofs.Tests.{passes}
-use Rattle.formats.proofs.head.Laws.{table-held, table-failed, rules-pass, rules-refused}
+use denote.Ref.{now}
 use borrow.Author.Needs.{needs}
+use Rattle.formats.proofs.Tests.{passes}
+use Rattle.formats.proofs.head.Laws.{rules-pass, rules-refused}
+use Rattle.formats.proofs.head.Words.{rules-outer, rules-inner, rules-right}
 use Rattle.formats.proofs.head.check_rules.Statement.{statement}
 use Rattle.formats.proofs.head.check_rules.Tie as tie
 
-check-table-requires : tie.Need-check-table-requires
-check-table-requires c κs = search needs
-
 returns : tie.Need-returns
-returns c = rules-refused (λ h. table-failed (c .before .check-table .ensures) (c .if1 .taken) (h .table))
+returns c = rules-refused (λ h. c .if1 .taken (h .table .long))
 
-shared-slice-read-if2 : tie.Need-shared-slice-read-if2
-shared-slice-read-if2 c = let h = table-held (c .before .before .check-table .ensures) (c .before .if1 .left) in omega arith
+read-at-requires : tie.Need-read-at-requires
+read-at-requires c κs = search needs
 
 returns-2 : tie.Need-returns-2
-returns-2 c = rules-refused (λ h. omega arith)
+returns-2 c =
+    let read = c .before in
+    let known = read .before .before in
+    rules-refused (λ h. c .if2 .taken (rules-outer (now (known .before .args .rules)) (λ i. known .shared-slice-known .given i .fits) (omega arith) (read .read-at .ensures) refl h))
+
+shared-slice-read-if3 : tie.Need-shared-slice-read-if3
+shared-slice-read-if3 c = search needs
 
 returns-3 : tie.Need-returns-3
-returns-3 c = passes 9 (rules-pass (record { table = table-held (c .before .before .before .check-table .ensures) (c .before .before .if1 .left); version = omega arith }))
+returns-3 c = rules-refused (λ h. omega (arith, h .version))
+
+read-at-requires-2 : tie.Need-read-at-requires-2
+read-at-requires-2 c κs = search needs
+
+returns-4 : tie.Need-returns-4
+returns-4 c =
+    let read = c .before .before .before .before .before in
+    let known = read .before .before in
+    rules-refused
+    (λ h. c .if4 .taken (rules-inner (now (known .before .args .rules)) (λ i. known .shared-slice-known .given i .fits) (omega arith) (read .read-at .ensures) (c .before .read-at2 .ensures) h))
+
+returns-5 : tie.Need-returns-5
+returns-5 c =
+    let third = c .before .before in
+    let second = third .before .before in
+    let read = second .before in
+    let known = read .before .before in
+    passes 9
+    (rules-pass
+    (rules-right (now (known .before .args .rules)) (λ i. known .shared-slice-known .given i .fits) (omega arith) (read .read-at .ensures) (c .before .read-at2 .ensures)
+    (read .before .if1 .left)
+    (second .if2 .left)
+    (third .if3 .left)
+    (c .if4 .left)))
 
 pub check-rules-spec : {M : Type 1} → statement M
 check-rules-spec =
-    tie.close (tie.spec check-table-requires returns shared-slice-read-if2 returns-2 returns-3)
+    tie.close
+    (tie.spec
+    returns
+    read-at-requires
+    returns-2
+    shared-slice-read-if3
+    returns-3
+    read-at-requires-2
+    returns-4
+    returns-5)

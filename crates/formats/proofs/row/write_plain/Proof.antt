@@ -1,71 +1,94 @@
--- `formats::row::write_plain` meets its contract: after byte 0 the loop stores zeros one by one.
+-- `formats::row::write_plain` meets its contract: three fields of eight bytes.
 -- Assumes nothing.
-use Prim.Native.Nat.{suc, _+_, _-_, _≤_}
-use mathlib.Core.Path.{_≡_, sym, _∙_}
+use Prim.Native.Nat.{_*_, _%_, _^_}
+use mathlib.Core.Path.{_≡_, sym, ap, _∙_}
 use native.Mathlib.Omega.{arith}
+use borrow.Author.Needs.{needs}
 use denote.Ref.{now}
-use lib.ListN.{length, length-set, replicate}
+use lib.ListN.{length}
+use Rattle.formats.specs.Part.{put}
 use Rattle.formats.specs.Row.{plainRow}
-use Rattle.formats.proofs.Part.{replaced-whole, replaced-not}
-use Rattle.formats.proofs.row.Laws.{plain-stored}
-use Rattle.formats.proofs.Stores.{Storing, start, store, done}
+use Rattle.formats.proofs.Part.{put-whole, replaced-whole, replaced-not}
+use Rattle.formats.proofs.Writes.{wrote-start, wrote-field}
+use Rattle.formats.proofs.row.Laws.{plain-length, plain-fields}
 use Rattle.formats.proofs.row.write_plain.Statement.{statement}
 use Rattle.formats.proofs.row.write_plain.Tie as tie
 
-abbrev Inv-loop : tie.InvT-loop
-Inv-loop row₀ state i₀ row i = (i ≤ 24) × Storing (replicate 23 0) row₀ 1 row i (replicate (24 - i) 0)
-
-abbrev μ-loop : tie.MeasureT-loop
-μ-loop row₀ state i₀ row i = 24 - i
-
-returns : tie.Need-returns Inv-loop μ-loop
+returns : tie.Need-returns
 returns c = sym (replaced-not _ _ _ (c .if1 .taken))
 
-slice-write-row : tie.Need-slice-write-row Inv-loop μ-loop
-slice-write-row c = omega arith
+sub-write : tie.Need-sub-write
+sub-write c = search needs
 
-loop-holds : tie.Need-loop-holds Inv-loop μ-loop
-loop-holds c = (omega arith, start _ _ _)
+part-write-start : tie.Need-part-write-start
+part-write-start c = search needs
 
-slice-write-row-2 : tie.Need-slice-write-row-2 Inv-loop μ-loop
-slice-write-row-2 c = omega (arith, simp length-set at (c .before .loop .inv .1 .size))
+part-write-end : tie.Need-part-write-end
+part-write-end c = search needs
 
-add-i : tie.Need-add-i Inv-loop μ-loop
-add-i c = omega arith
+write-requires : tie.Need-write-requires
+write-requires c κs = search needs
 
-loop-less : tie.Need-loop-less Inv-loop μ-loop
-loop-less c = omega arith
+sub-write-2 : tie.Need-sub-write-2
+sub-write-2 c = search needs
 
-loop-again : tie.Need-loop-again Inv-loop μ-loop
-loop-again c =
-    let l = c .before .loop in
-    let m : 24 - l .i ≡ suc (24 - (l .i + 1)) = omega arith in
-    (omega arith, store (rw m at (l .inv .1)) (omega (arith, simp length-set at (l .inv .1 .size))))
+part-write-start-2 : tie.Need-part-write-start-2
+part-write-start-2 c = search needs
 
-same-length : tie.Need-same-length Inv-loop μ-loop
-same-length c = simp length-set at (c .before .loop .inv .1 .size)
+part-write-end-2 : tie.Need-part-write-end-2
+part-write-end-2 c = search needs
 
-returns-2 : tie.Need-returns-2 Inv-loop μ-loop
+write-requires-2 : tie.Need-write-requires-2
+write-requires-2 c κs = search needs
+
+sub-write-3 : tie.Need-sub-write-3
+sub-write-3 c = search needs
+
+part-write-start-3 : tie.Need-part-write-start-3
+part-write-start-3 c = search needs
+
+part-write-end-3 : tie.Need-part-write-end-3
+part-write-end-3 c = search needs
+
+write-requires-3 : tie.Need-write-requires-3
+write-requires-3 c κs = search needs
+
+same-length : tie.Need-same-length
+same-length c = search needs
+
+returns-2 : tie.Need-returns-2
 returns-2 c =
-    let l = c .before .loop in
-    let m : 24 - l .i ≡ 0 = omega arith in
-    let a = c .before .before .before .args in
-    let row = now (a .row) in
+    let w3 = c .before .before in
+    let w2 = w3 .before .before .before .before in
+    let w1 = w2 .before .before .before .before in
+    let a = w1 .before .before .before .before in
+    let row = now (a .args .row) in
+    let state = a .args .state in
     let size : length row ≡ 24 = omega arith in
-    done (rw m at (l .inv .1)) ∙ plain-stored (a .state) row size ∙ sym (replaced-whole 24 (plainRow (a .state)) row size)
+    let x = wrote-field 8 ((state * 2 ^ 56) % 2 ^ 64) (wrote-start 0 row (omega arith)) (omega arith) (w1 .write .ensures) in
+    let y = wrote-field 8 0 x (omega arith) (w2 .write2 .ensures) in
+    let z = wrote-field 8 0 y (omega arith) (w3 .write3 .ensures) in
+    z .is
+    ∙ ap (put row 0) (plain-fields state (a .fits .state .fits))
+    ∙ put-whole row (plainRow state) (plain-length state ∙ sym size)
+    ∙ sym (replaced-whole 24 (plainRow state) row size)
 
 pub write-plain-spec : {M : Type 1} → statement M
 write-plain-spec =
     tie.close
     (tie.spec
-    Inv-loop
-    μ-loop
     returns
-    slice-write-row
-    loop-holds
-    slice-write-row-2
-    add-i
-    loop-less
-    loop-again
+    sub-write
+    part-write-start
+    part-write-end
+    write-requires
+    sub-write-2
+    part-write-start-2
+    part-write-end-2
+    write-requires-2
+    sub-write-3
+    part-write-start-3
+    part-write-end-3
+    write-requires-3
     same-length
     returns-2)

@@ -34,19 +34,16 @@ returns-2 c =
     skip 10 _ _ _ (denied (kind .before .is-full .ensures ∙ ap isFull (kind .before .before .kind .ensures)) (kind .if1 .left))
     (hit 11 _ _ (denied (c .before .is-away .ensures ∙ ap isAway (c .before .before .state .ensures ∙ ap (stateIn _) (c .before .before .before .content .ensures))) (c .if2 .taken)))
 
-facts-requires : tie.Need-facts-requires
-facts-requires c κs = search needs
-
 may-not-move-requires : tie.Need-may-not-move-requires
 may-not-move-requires c κs = search needs
 
 returns-3 : tie.Need-returns-3
 returns-3 c =
-    let row = c .before .before .before in
+    let row = c .before .before in
     let kind = row .before .before .before .before in
     skip 10 _ _ _ (denied (kind .before .is-full .ensures ∙ ap isFull (kind .before .before .kind .ensures)) (kind .if1 .left))
     (skip 11 _ _ _ (denied (row .before .is-away .ensures ∙ ap isAway (row .before .before .state .ensures ∙ ap (stateIn _) (row .before .before .before .content .ensures))) (row .if2 .left))
-    (hit 12 _ _ (told (c .before .may-not-move .ensures ∙ ap mayNotMove (c .before .before .facts .ensures)) (c .if3 .taken))))
+    (hit 12 _ _ (told (c .before .may-not-move .ensures _) (c .if3 .taken))))
 
 hash-requires : tie.Need-hash-requires
 hash-requires c κs = search needs
@@ -54,11 +51,11 @@ hash-requires c κs = search needs
 returns-4 : tie.Need-returns-4
 returns-4 c =
     let facts = c .before .before in
-    let row = facts .before .before .before in
+    let row = facts .before .before in
     let kind = row .before .before .before .before in
     skip 10 _ _ _ (denied (kind .before .is-full .ensures ∙ ap isFull (kind .before .before .kind .ensures)) (kind .if1 .left))
     (skip 11 _ _ _ (denied (row .before .is-away .ensures ∙ ap isAway (row .before .before .state .ensures ∙ ap (stateIn _) (row .before .before .before .content .ensures))) (row .if2 .left))
-    (skip 12 _ _ _ (told (facts .before .may-not-move .ensures ∙ ap mayNotMove (facts .before .before .facts .ensures)) (facts .if3 .left))
+    (skip 12 _ _ _ (told (facts .before .may-not-move .ensures _) (facts .if3 .left))
     (hit 13 _ _ (hash-other (c .before .hash .ensures) (c .if4 .taken)))))
 
 leaves-title-key-requires : tie.Need-leaves-title-key-requires
@@ -68,11 +65,11 @@ returns-5 : tie.Need-returns-5
 returns-5 c =
     let hash = c .before .before in
     let facts = hash .before .before in
-    let row = facts .before .before .before in
+    let row = facts .before .before in
     let kind = row .before .before .before .before in
     skip 10 _ _ _ (denied (kind .before .is-full .ensures ∙ ap isFull (kind .before .before .kind .ensures)) (kind .if1 .left))
     (skip 11 _ _ _ (denied (row .before .is-away .ensures ∙ ap isAway (row .before .before .state .ensures ∙ ap (stateIn _) (row .before .before .before .content .ensures))) (row .if2 .left))
-    (skip 12 _ _ _ (told (facts .before .may-not-move .ensures ∙ ap mayNotMove (facts .before .before .facts .ensures)) (facts .if3 .left))
+    (skip 12 _ _ _ (told (facts .before .may-not-move .ensures _) (facts .if3 .left))
     (skip 13 _ _ _ (hash-same (hash .before .hash .ensures) (hash .if4 .left))
     (hit 16 _ _ (or-first _ (told (c .before .leaves-title-key .ensures) (c .if5 .taken)))))))
 
@@ -84,11 +81,11 @@ returns-6 c =
     let key = c .before .before in
     let hash = key .before .before in
     let facts = hash .before .before in
-    let row = facts .before .before .before in
+    let row = facts .before .before in
     let kind = row .before .before .before .before in
     skip 10 _ _ _ (denied (kind .before .is-full .ensures ∙ ap isFull (kind .before .before .kind .ensures)) (kind .if1 .left))
     (skip 11 _ _ _ (denied (row .before .is-away .ensures ∙ ap isAway (row .before .before .state .ensures ∙ ap (stateIn _) (row .before .before .before .content .ensures))) (row .if2 .left))
-    (skip 12 _ _ _ (told (facts .before .may-not-move .ensures ∙ ap mayNotMove (facts .before .before .facts .ensures)) (facts .if3 .left))
+    (skip 12 _ _ _ (told (facts .before .may-not-move .ensures _) (facts .if3 .left))
     (skip 13 _ _ _ (hash-same (hash .before .hash .ensures) (hash .if4 .left))
     (hit 16 _ _ (or-next (told (key .before .leaves-title-key .ensures) (key .if5 .left)) (told (c .before .leaves-sti-key .ensures) (c .if6 .taken)))))))
 
@@ -97,11 +94,11 @@ returns-7 c =
     let key = c .before .before in
     let hash = key .before .before in
     let facts = hash .before .before in
-    let row = facts .before .before .before in
+    let row = facts .before .before in
     let kind = row .before .before .before .before in
     skip 10 _ _ _ (denied (kind .before .is-full .ensures ∙ ap isFull (kind .before .before .kind .ensures)) (kind .if1 .left))
     (skip 11 _ _ _ (denied (row .before .is-away .ensures ∙ ap isAway (row .before .before .state .ensures ∙ ap (stateIn _) (row .before .before .before .content .ensures))) (row .if2 .left))
-    (skip 12 _ _ _ (told (facts .before .may-not-move .ensures ∙ ap mayNotMove (facts .before .before .facts .ensures)) (facts .if3 .left))
+    (skip 12 _ _ _ (told (facts .before .may-not-move .ensures _) (facts .if3 .left))
     (skip 13 _ _ _ (hash-same (hash .before .hash .ensures) (hash .if4 .left))
     (skip 16 _ _ _ (or-next (told (key .before .leaves-title-key .ensures) (key .if5 .left)) (told (c .before .leaves-sti-key .ensures) (c .if6 .left))) end))))
 
@@ -116,7 +113,6 @@ state-spec =
     state-requires
     is-away-requires
     returns-2
-    facts-requires
     may-not-move-requires
     returns-3
     hash-requires

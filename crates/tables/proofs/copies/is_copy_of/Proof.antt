@@ -1,35 +1,51 @@
 -- `tables::copies::is_copy_of` meets its contract.
 -- Assumes nothing.
 use mathlib.Core.Path.{sym, ap, _∙_}
-use denote.Ref.{now}
+use mathlib.Core.Bool.{Bool, not}
 use borrow.Author.Needs.{needs}
-use Rattle.calls.specs.Buffers.{isCopy}
-use Rattle.tables.proofs.Counting.{other-title, its-title}
+use Rattle.formats.proofs.half.Laws.{below-one, above-most}
+use Rattle.tables.proofs.Counting.{not-held, other-id, reserved, by-rule}
 use Rattle.tables.proofs.copies.is_copy_of.Statement.{statement}
 use Rattle.tables.proofs.copies.is_copy_of.Tie as tie
 
-content-id-requires : tie.Need-content-id-requires
-content-id-requires c κs = search needs
-
 returns : tie.Need-returns
-returns c =
-    let a = c .before .before .before .before .before .before .args in
-    other-title (a .content .0) (now (a .title)) (now (a .rule)) (λ e. c .if1 .taken (c .before .before .before .content-id .ensures ∙ e))
-
-kind-requires : tie.Need-kind-requires
-kind-requires c κs = search needs
-
-is-copy-requires : tie.Need-is-copy-requires
-is-copy-requires c κs = search needs
+returns c = not-held _ _ _ (below-one _ _ (c .if1 .taken))
 
 returns-2 : tie.Need-returns-2
-returns-2 c =
-    let x = c .before .before in
-    let a = x .before .before .before .before .before .before .args in
-    c .is-copy .ensures
-    ∙ ap isCopy (c .before .kind .ensures)
-    ∙ its-title (a .content .0) (now (a .title)) (now (a .rule)) (sym (x .before .before .before .content-id .ensures) ∙ x .if1 .left)
+returns-2 c = not-held _ _ _ (above-most _ _ (c .before .if1 .left) (c .if2 .taken))
+
+usable-id-requires : tie.Need-usable-id-requires
+usable-id-requires c κs = search needs
+
+returns-3 : tie.Need-returns-3
+returns-3 c = other-id _ _ _ (λ e. c .if3 .taken (c .before .usable-id .ensures ∙ e))
+
+cci-requires : tie.Need-cci-requires
+cci-requires c κs = search needs
+
+returns-4 : tie.Need-returns-4
+returns-4 c = reserved _ _ _ (sym (c .before .cci .ensures) ∙ c .if4 .taken)
+
+usable-requires : tie.Need-usable-requires
+usable-requires c κs = search needs
+
+returns-5 : tie.Need-returns-5
+returns-5 c =
+    let cci = c .before .before in
+    let third = cci .before in
+    let id = third .before in
+    ap not (c .usable .ensures)
+    ∙ by-rule _ _ _ (id .before .before .if1 .left) (id .before .if2 .left) (sym (id .usable-id .ensures) ∙ third .if3 .left) (λ e. c .before .if4 .left (cci .cci .ensures ∙ e))
 
 pub is-copy-of-spec : {M : Type 1} → statement M
 is-copy-of-spec =
-    tie.close (tie.spec content-id-requires returns kind-requires is-copy-requires returns-2)
+    tie.close
+    (tie.spec
+    returns
+    returns-2
+    usable-id-requires
+    returns-3
+    cci-requires
+    returns-4
+    usable-requires
+    returns-5)

@@ -8,6 +8,7 @@ use borrow.Author.Tests.{le-leb, lt-leb}
 use Rattle.formats.specs.Head.{rowsOf}
 use Rattle.formats.specs.Row.{stateOf}
 use Rattle.calls.specs.Buffers.{stateIn}
+use Rattle.tables.proofs.Rows.{rows-below}
 use Rattle.tables.proofs.ledger.state.Statement.{statement}
 use Rattle.tables.proofs.ledger.state.Tie as tie
 
@@ -25,8 +26,13 @@ returns-2 c =
     let e = c .before .rows .ensures in
     simp (le-leb 1 (a .content .0) (omega arith), lt-leb (a .content .0) (rowsOf (now (a .ledger))) (omega arith))
 
-row-part-requires : tie.Need-row-part-requires
-row-part-requires c κs = search needs
+mul-part : tie.Need-mul-part
+mul-part c =
+    let known = c .before .before .before in
+    omega (arith, c .before .rows .ensures, rows-below (now (known .before .args .ledger)) (λ i. known .shared-slice-known .given i .fits))
+
+part-requires : tie.Need-part-requires
+part-requires c κs = search needs
 
 state-requires : tie.Need-state-requires
 state-requires c κs = search needs
@@ -37,8 +43,8 @@ returns-3 c =
     let a = c .before .before .before .before .before .before .args in
     let e = c .before .before .before .rows .ensures in
     simp (le-leb 1 (a .content .0) (omega arith), le-leb (a .content .0) (rowsOf (now (a .ledger))) (omega arith))
-    (c .state .ensures ∙ ap stateOf (c .before .row-part .ensures))
+    (c .state .ensures ∙ ap stateOf (c .before .part .ensures))
 
 pub state-spec : {M : Type 1} → statement M
 state-spec =
-    tie.close (tie.spec returns rows-requires returns-2 row-part-requires state-requires returns-3)
+    tie.close (tie.spec returns rows-requires returns-2 mul-part part-requires state-requires returns-3)

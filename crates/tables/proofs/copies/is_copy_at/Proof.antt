@@ -1,0 +1,27 @@
+-- `tables::copies::is_copy_at` meets its contract.
+-- Assumes nothing.
+use mathlib.Core.Path.{ap₂, _∙_}
+use mathlib.Core.List.{List}
+use Prim.Native.Nat.{ℕ}
+use borrow.Author.Needs.{needs}
+use Rattle.calls.specs.Buffers.{copyOf}
+use Rattle.tables.proofs.copies.is_copy_at.Statement.{statement}
+use Rattle.tables.proofs.copies.is_copy_at.Tie as tie
+
+title-half-requires : tie.Need-title-half-requires
+title-half-requires c κs = search needs
+
+rule-half-requires : tie.Need-rule-half-requires
+rule-half-requires c κs = search needs
+
+is-copy-of-requires : tie.Need-is-copy-of-requires
+is-copy-of-requires c κs = search needs
+
+returns : tie.Need-returns
+returns c =
+    let a = c .before .before .before .before .before .args in
+    c .is-copy-of .ensures ∙ ap₂ (λ (t r : List ℕ). copyOf (a .content .0) t r) (c .before .before .title-half .ensures) (c .before .rule-half .ensures)
+
+pub is-copy-at-spec : {M : Type 1} → statement M
+is-copy-at-spec =
+    tie.close (tie.spec title-half-requires rule-half-requires is-copy-of-requires returns)
