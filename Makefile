@@ -1,10 +1,12 @@
 # make demo: the counter on document 01's example. make test: every test, and the proofs last.
-.PHONY: demo test expected till programs target/staticlib/libtill.a target/bin/counter
+# make bench: the library against plain C. make plot: a picture of what it measured.
+.PHONY: demo test expected till compare soak programs requests history bench plot
+.PHONY: target/staticlib/libtill.a target/bin/counter
 
 demo: target/bin/counter
 	@$< < crates/counter/stdin
 
-test: expected till programs
+test: expected till compare requests programs
 	rt fmt --check
 	rt ci
 
@@ -33,15 +35,62 @@ target/host/till-test: host/till/test.c include/music_counter.h target/staticlib
 	@mkdir -p target/host
 	$(C) $(GUARDS) -o $@ $< target/staticlib/libtill.a
 
+# The library against an implementation of document 01 of its own: calls and requests by seed, all bytes after each.
+compare: target/host/compare
+	target/host/compare calls 5000000 1
+
+# The same for as long as wanted, with new seeds: make soak SECONDS=600 SEED=1
+SECONDS = 60
+SEED = 1
+soak: target/host/compare
+	target/host/compare seconds $(SECONDS) $(SEED)
+
+target/host/compare: $(wildcard host/compare/*.rs) target/staticlib/libtill.a
+	@mkdir -p target/host
+	rustc --edition 2021 -O -o $@ host/compare/main.rs -C link-arg=target/staticlib/libtill.a
+
 # Whether it is up to date is for rt to say.
 target/staticlib/libtill.a:
 	rt staticlib till
 
-# The program, on requests written by hand.
-programs: target/bin/counter
+# The program, on requests written by hand, and on the example history against its stored answers.
+programs: target/bin/counter target/host/requests
 	host/counter/test.sh $<
+	$(ANSWERED) | cmp - examples/history-answers.txt
+
+# The example history: each of its lines with the counter's answer beside it.
+history: target/bin/counter target/host/requests
+	@$(ANSWERED)
+
+HISTORY = examples/history.txt
+ANSWERED = target/host/requests bytes $(HISTORY) | target/bin/counter | target/host/requests beside $(HISTORY) -
+
+# Readable lines to request bytes and back: both ways, and every message.
+requests: target/host/requests
+	host/requests/test.sh $<
+
+target/host/requests: host/requests/main.rs $(wildcard host/requests/*.rs)
+	@mkdir -p target/host
+	rustc --edition 2021 -O -o $@ $<
 
 # Proving and building takes a few minutes, once.
 target/bin/counter:
 	@mkdir -p target
 	@rt check counter > target/counter.log || { tail -20 target/counter.log; exit 1; }
+
+# How fast the library is beside the same operations in plain C. The library is for any x86-64, and so is the plain C.
+bench: target/bench/bench
+	$< target/bench/results.tsv
+
+BENCH = host/bench/bench.c host/bench/scenes.c host/bench/check.c host/bench/plain.c
+
+# The scans of the plain C are loops of a few instructions. Unaligned, they take half or twice the time with any change
+# elsewhere in the program, by where they come to lie.
+ALIGNED = -falign-loops=32 -falign-jumps=32
+
+target/bench/bench: $(BENCH) host/bench/scenes.h host/bench/plain.h include/music_counter.h target/staticlib/libtill.a
+	@mkdir -p target/bench
+	gcc -std=c11 -Wall -Wextra -pedantic -Werror -Iinclude -O3 $(ALIGNED) -o $@ $(BENCH) target/staticlib/libtill.a
+
+plot:
+	host/bench/plot.py target/bench/results.tsv docs/benchmark.svg
