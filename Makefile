@@ -1,12 +1,12 @@
 # make demo: the counter on document 01's example. make test: every test, and the proofs last.
 # make bench: the library against plain C. make plot: a picture of what it measured.
-.PHONY: demo test expected till compare soak programs requests history bench plot
+.PHONY: demo test expected till compare soak programs requests references history bench plot
 .PHONY: target/staticlib/libtill.a target/bin/counter
 
 demo: target/bin/counter
 	@$< < crates/counter/stdin
 
-test: expected till compare requests programs
+test: expected till compare requests references programs
 	rt fmt --check
 	rt ci
 
@@ -72,6 +72,10 @@ requests: target/host/requests
 target/host/requests: host/requests/main.rs $(wildcard host/requests/*.rs)
 	@mkdir -p target/host
 	rustc --edition 2021 -O -o $@ $<
+
+# What the documents refer to is in the source. After an edit, host/docs/check.sh --update sets their line numbers anew.
+references:
+	host/docs/check.sh
 
 # Proving and building takes a few minutes, once.
 target/bin/counter:

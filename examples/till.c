@@ -1,4 +1,7 @@
-/* One title's way through a till: registered, lent, returned, moved to the card and back, deleted. */
+/*
+ * One title's way through a till: registered, lent, returned, moved to the card and back, deleted. Then a call as request
+ * bytes, written and read back.
+ */
 #include <inttypes.h>
 #include <stdio.h>
 
@@ -29,6 +32,22 @@ static void show_copies(uint64_t content)
     show("tally", answer);
     if (answer == COUNTER_DONE)
         printf("    copies of title %" PRIu64 ": %" PRIu64 "\n", content, copies);
+}
+
+/* A call in the form in which it is logged or sent: its bytes, and what they say. */
+static void show_request(uint64_t kind, const uint64_t arguments[COUNTER_ARGUMENTS])
+{
+    uint8_t bytes[COUNTER_LONGEST_REQUEST];
+    uint64_t read_kind, read[COUNTER_ARGUMENTS];
+    size_t used, again;
+
+    show("write a request", counter_write_request(bytes, sizeof bytes, kind, arguments, &used));
+    printf("   ");
+    for (size_t i = 0; i < used; i++)
+        printf(" %02x", bytes[i]);
+    printf("\n");
+    show("read it back", counter_read_request(bytes, used, &read_kind, read, &again));
+    printf("    kind %" PRIu64 ", content %" PRIu64 ", entry %" PRIu64 ", from %zu bytes\n", read_kind, read[0], read[1], again);
 }
 
 int main(void)
@@ -63,5 +82,8 @@ int main(void)
     show("delete entry 10 again", counter_delete(LEDGER, TITLES, RULES, 10, f1, f2, f3, f4));
     show("register title 1 again",
          counter_register(LEDGER, title, cci, trigger, rights, permits, title_key, sti_key));
+
+    /* check-out of title 5 to entry 999; the places after a kind's arguments count for nothing */
+    show_request(3, (const uint64_t[COUNTER_ARGUMENTS]){5, 999});
     return 0;
 }

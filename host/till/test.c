@@ -998,6 +998,112 @@ static void a_history(void)
     CHECK(named("move in"), 12);
 }
 
+/* ---------------------------------------------------------------- requests */
+
+/* Request bytes stand in the ledger's buffer, so that its guards hold them too; the numbers have guards of their own. */
+struct numbers {
+    uint64_t before, kind, arguments[COUNTER_ARGUMENTS], used, after;
+};
+
+static const struct request {
+    const char *bytes;
+    size_t length;
+    uint64_t kind, arguments[COUNTER_ARGUMENTS];
+} written[] = {
+    {"\x01\x01\x02\x00\x01\x01\x05\x06", 8, 1, {1, 2, 0, 1, 1, 5, 6}},
+    {"\x02\x01\xe7\x07\x03\x01\x0f\x0f\x7f\x80\x01\x00", 12, 2, {1, 999, 3, 1, 15, 15, 127, 128, 0}},
+    {"\x03\x05\xe7\x07", 4, 3, {5, 999}},
+    {"\x04\x07\xff\xff\xff\xff\xff\xff\xff\xff\xff\x01", 12, 4, {7, TOP}},
+    {"\x05\x01\x02\x03\x04\x05\x06", 7, 5, {1, 2, 3, 4, 5, 6}},
+    {"\x06\x01\x09\x00", 4, 6, {1, 9, 0}},
+    {"\x07\xe7\x07\x01\x02\x03\x04", 7, 7, {999, 1, 2, 3, 4}},
+};
+
+static void lend(const char *front, size_t length)
+{
+    resize(&ledger, length);
+    memset(wanted(&ledger), 0xee, length);
+    memcpy(wanted(&ledger), front, length);
+    settle();
+}
+
+/* Reads what is lent, and wants this answer; done, the request's numbers, else all as they were. */
+static void reads(int line, const struct request *r, uint64_t answer)
+{
+    struct numbers n = {GUARD, 90, {91, 92, 93, 94, 95, 96, 97, 98, 99}, 89, GUARD}, w = n;
+
+    if (answer == COUNTER_DONE) {
+        w.kind = r->kind;
+        memcpy(w.arguments, r->arguments, sizeof w.arguments);
+        w.used = r->length;
+    }
+    same(line, "read", "answers", counter_read_request(bytes(&ledger), ledger.length, &n.kind, n.arguments, &n.used), answer);
+    same(line, "read", "numbers differ", memcmp(&n, &w, sizeof n) != 0, 0);
+    compare(line, "read", &ledger);
+}
+
+/* Writes a request into what is lent, and wants this answer; done, its bytes, else all as it was. */
+static void writes(int line, const struct request *r, uint64_t kind, const uint64_t *arguments, uint64_t answer)
+{
+    struct numbers n = {GUARD, 0, {0}, 89, GUARD};
+
+    if (answer == COUNTER_DONE)
+        memcpy(wanted(&ledger), r->bytes, r->length);
+    same(line, "write", "answers", counter_write_request(bytes(&ledger), ledger.length, kind, arguments, &n.used), answer);
+    same(line, "write", "uses", n.used, answer == COUNTER_DONE ? r->length : 89);
+    same(line, "write", "guards differ", n.before != GUARD || n.after != GUARD, 0);
+    compare(line, "write", &ledger);
+}
+
+static void requests(void)
+{
+    for (size_t k = 0; k < COUNT_OF(written); k++) {
+        const struct request *r = &written[k];
+
+        for (size_t length = 0; length <= r->length; length++) {
+            lend(r->bytes, length);
+            reads(__LINE__, r, length == r->length ? COUNTER_DONE : COUNTER_TOO_SHORT);
+            lend("", 0);
+            resize(&ledger, length);
+            settle();
+            writes(__LINE__, r, r->kind, r->arguments, length == r->length ? COUNTER_DONE : COUNTER_TOO_SHORT);
+        }
+        resize(&ledger, r->length + 3);
+        settle();
+        writes(__LINE__, r, r->kind, r->arguments, COUNTER_DONE);
+        settle();
+        reads(__LINE__, r, COUNTER_DONE);
+    }
+}
+
+static void faulty_requests(void)
+{
+    static const struct {
+        const char *bytes;
+        size_t length;
+        uint64_t answer;
+    } faulty[] = {
+        {"\x80", 1, 1}, {"\x80\x00", 2, 2}, {"\x00", 1, 3}, {"\x08", 1, 3}, {"\x03\x00", 2, 4}, {"\x03\xe8\x07", 3, 4},
+        {"\x03\x05\x00", 3, 5}, {"\x01\x01\x01", 3, 6}, {"\x01\x01\x04", 3, 6}, {"\x01\x01\x02\x02", 4, 6},
+        {"\xff\xff\xff\xff\xff\xff\xff\xff\xff\x02", 10, 2},
+    };
+    const uint64_t past[] = {1000, 1, 2, 0, 1, 1, 5, 6, 0};
+
+    for (size_t k = 0; k < COUNT_OF(faulty); k++) {
+        lend(faulty[k].bytes, faulty[k].length);
+        reads(__LINE__, NULL, faulty[k].answer);
+    }
+    lend("", 0);
+    resize(&ledger, COUNTER_LONGEST_REQUEST);
+    settle();
+    writes(__LINE__, NULL, 0, written[0].arguments, 3);
+    writes(__LINE__, NULL, 8, written[0].arguments, 3);
+    writes(__LINE__, NULL, TOP, written[0].arguments, 3);
+    writes(__LINE__, NULL, 1, past, 4);
+    writes(__LINE__, NULL, 5, past, 5);
+    writes(__LINE__, NULL, 1, written[2].arguments, 6);
+}
+
 static void texts(void)
 {
     for (uint64_t i = 0; i <= 17; i++)
@@ -1035,6 +1141,8 @@ int main(void)
     copies_beside();
     tallies();
     a_history();
+    requests();
+    faulty_requests();
     texts();
     printf("till: %lu checks\n", checks);
     return 0;

@@ -1,6 +1,6 @@
 // The rows of a ledger, by their content ID.
 ghost use mathlib.Core.Path.{_≡_};
-ghost use Rattle.calls.specs.Buffers.{rowAt, stateIn, hereFacts, noFacts, isEmpty, isHere, isAway};
+ghost use Rattle.calls.specs.Buffers.{stateIn, hereFacts, noFacts, isEmpty, isHere, isAway};
 use formats::facts::ContentId;
 use formats::facts::Facts;
 use formats::head;
@@ -8,19 +8,7 @@ use formats::row;
 use formats::row::RowState;
 use formats::table;
 
-// The row of a title, as the part of the ledger that it occupies. A ledger that ends before it has nothing there.
-pub fn row_part(ledger: &[u8], content: ContentId) -> &[u8]
-    ensures { λ r. ⌜ now r ≡ rowAt (now (ledger .entry)) (content .0) ⌝ }
-{
-    let c = content.0;
-    let size = ledger.len();
-    if (size as u64) / 24 < c {
-        return &ledger[size..];
-    }
-    table::part(ledger, 24 * (c as usize), 24)
-}
-
-// The state of a row. Row 0 and rows above R are in none.
+// The state of a row, read from the part of the ledger that it occupies. Row 0 and rows above R are in none.
 pub fn state(ledger: &[u8], content: ContentId) -> RowState
     ensures { λ r. ⌜ r ≡ stateIn (now (ledger .entry)) (content .0) ⌝ }
 {

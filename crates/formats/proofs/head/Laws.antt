@@ -3,13 +3,13 @@
 use Prim.Native.Nat.{ℕ, _+_, _-_, _*_, _≤_, _<_, _^_}
 use mathlib.Core.Path.{_≡_, refl, sym, ap, _∙_}
 use mathlib.Core.List.{List, _++_, append-assoc}
-use mathlib.Core.Bool.{Bool, true, false, not, true≢false}
+use mathlib.Core.Bool.{true}
 use mathlib.Core.Logic.{_⊎_, inr, ⊎-map}
 use native.Mathlib.Omega.{arith}
 use lib.ListN.{length, getD, replicate, length-append, length-replicate, getD-replicate}
 use lib.Seq.{ext-getD, getD-append-add}
 use lib.Dec.{lit<}
-use borrow.Author.Tests.{le-leb, leb-true, eq-eqb, eqb-true, not-true, not-false}
+use borrow.Author.Tests.{le-leb, leb-true, eq-eqb, eqb-true}
 use Rattle.formats.specs.Part.{part, put}
 use Rattle.formats.specs.Field.{number, bytesOf}
 use Rattle.formats.specs.Head.{ledgerApplication, rowsOf, ledgerPasses, tablePasses, titlesPass, rulesPass, rulesApplication, ledgerAnswer, titlesAnswer, rulesAnswer, rulesAnswerFor, freshLedger, tableHead, freshTitles, freshRules}
@@ -63,14 +63,6 @@ unfolding tablePasses
 table-passes h =
     both (eq-eqb _ _ (h .long))
     (both (eq-eqb _ _ (h .names)) (both (eq-eqb _ _ (h .sized)) (both (eq-eqb _ _ (h .count)) (both (eq-eqb _ _ (h .wide)) (eq-eqb _ _ (h .marked))))))
-
--- what a yes of `check_table` says
-pub table-held : {b : Bool} {identifier size width mark : ℕ} {t : List ℕ} → b ≡ tablePasses identifier size width mark t → not b ≡ false → TableHead identifier size width mark t
-table-held e n = table-head (sym e ∙ not-false _ n)
-
--- what a no of `check_table` says
-pub table-failed : {b : Bool} {identifier size width mark : ℕ} {t : List ℕ} → b ≡ tablePasses identifier size width mark t → not b ≡ true → TableHead identifier size width mark t → ⊥
-table-failed e n h = true≢false (sym (table-passes h) ∙ sym e ∙ not-true _ n)
 
 -- a title table whose length and head are right
 pub record TitlesHead (t : List ℕ) : Type 0 where
