@@ -9,6 +9,16 @@ use crate::facts::ContentId;
 use crate::field;
 use crate::table;
 
+// Bytes 0 to 7 as one field have the key at the bottom; bytes 8 to 15 have the flag at the top and the content ID at the bottom.
+const KEY_BITS: u64 = 0xff_ffff_ffff_ffff;
+
+const FLAG: u64 = 0x8000_0000_0000_0000;
+
+const ID_BITS: u64 = 0x3ff;
+
+// Flag and content ID in the order of their bytes.
+const SWAPPED_MARKS: u64 = 0xff03_0000_0000_0080;
+
 fn top_bit(x: u8) -> bool
     ensures { λ r. ⌜ r ≡ leb 128 x ⌝ }
 {
@@ -28,7 +38,7 @@ pub fn key(half: &[u8]) -> u64
     if half.len() < 8 {
         return field::read_at(half, 1, 7);
     }
-    field::read_at(half, 0, 8) & 0xff_ffff_ffff_ffff
+    field::read_at(half, 0, 8) & KEY_BITS
 }
 
 pub fn flag(half: &[u8]) -> bool
@@ -43,7 +53,7 @@ pub fn content_id(half: &[u8]) -> ContentId
     if half.len() < 16 {
         return ContentId(ten_bits(table::byte(half, 14), table::byte(half, 15)));
     }
-    ContentId(field::read_at(half, 8, 8) & 0x3ff)
+    ContentId(field::read_at(half, 8, 8) & ID_BITS)
 }
 
 // Flag and ID together are above the flag alone.
@@ -53,7 +63,7 @@ pub fn usable(half: &[u8]) -> bool
     if half.len() < 16 {
         return false;
     }
-    0x8000_0000_0000_0000 < field::read_at(half, 8, 8) & 0x8000_0000_0000_03ff
+    FLAG < field::read_at(half, 8, 8) & (FLAG | ID_BITS)
 }
 
 // The content ID of a usable half, 0 for any other.
@@ -64,10 +74,10 @@ pub fn usable_id(half: &[u8]) -> u64
         return 0;
     }
     let tail = field::read_at(half, 8, 8);
-    if tail < 0x8000_0000_0000_0000 {
+    if tail < FLAG {
         return 0;
     }
-    tail & 0x3ff
+    tail & ID_BITS
 }
 
 // Whether a half has flag 1 and this content ID, from 1 to 999. Flag and ID are compared at once, in the order of their bytes.
@@ -85,7 +95,7 @@ pub fn is_flagged(half: &[u8], content: ContentId) -> bool
         return false;
     }
     let tail = field::swapped(field::read_at(half, 8, 8));
-    tail & 0xff03_0000_0000_0080 == field::swapped(0x8000_0000_0000_0000 | id)
+    tail & SWAPPED_MARKS == field::swapped(FLAG | id)
 }
 
 // Writes the first 16 bytes of a half: `first`, the key, flag 1, the content ID, and 0 in every reserved bit. Bytes 0 to 7 are
@@ -97,11 +107,8 @@ pub fn write(half: &mut [u8], first: u8, key: u64, content: ContentId)
         return;
     }
     let id = content.0;
-    field::write(
-        &mut half[0..8],
-        ((first as u64) << 56) | (key & 0xff_ffff_ffff_ffff),
-    );
-    field::write(&mut half[8..16], 0x8000_0000_0000_0000 | (id & 0x3ff));
+    field::write(&mut half[0..8], ((first as u64) << 56) | (key & KEY_BITS));
+    field::write(&mut half[8..16], FLAG | (id & ID_BITS));
 }
 
 // Writes the filler over bytes 0 to 7 and clears the flag. Every other bit stays.

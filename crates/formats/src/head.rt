@@ -45,12 +45,14 @@ pub fn check_titles(titles: &[u8]) -> u64
     if titles.len() != 16000 {
         return refusal::TITLES;
     }
+    // "A1", byte 2 ignored, version 10h or 09h, the size
     let front = field::read_at(titles, 0, 8) & 0xffff_00ff_ffff_ffff;
     if front != 0x4131_0010_0000_3e80 {
         if front != 0x4131_0009_0000_3e80 {
             return refusal::TITLES;
         }
     }
+    // zero, the count, 16, 01h
     if field::read_at(titles, 8, 8) >> 16 != 0x03e7_1001 {
         return refusal::TITLES;
     }
@@ -72,12 +74,14 @@ pub fn check_rules(rules: &[u8]) -> u64
     if rules.len() != 32000 {
         return refusal::RULES;
     }
+    // "M1", byte 2 ignored, the version, the size
     if field::read_at(rules, 0, 8) & 0xffff_0000_ffff_ffff != 0x4d31_0000_0000_7d00 {
         return refusal::RULES;
     }
     if rules[3] < 0x11 {
         return refusal::RULES;
     }
+    // the count, 32, 02h, after the application number
     if (field::read_at(rules, 8, 8) >> 16) & 0xffff_ffff != 0x03e7_2002 {
         return refusal::RULES;
     }
