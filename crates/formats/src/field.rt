@@ -1,5 +1,6 @@
 // Fields of several bytes, the most significant byte first.
 ghost use mathlib.Core.Path.{_≡_};
+ghost use mathlib.Core.List.{_∷_, []};
 ghost use Prim.Native.Nat.{_+_, _*_, _/_, _%_, _^_, _≤_, _<_, min};
 ghost use lib.ListN.{length};
 ghost use Rattle.formats.specs.Part.{part};
@@ -30,32 +31,34 @@ fn append(value: u64, byte: u8) -> u64
     (value << 8) | (byte as u64)
 }
 
-// Eight bytes with the least significant first. The compiler makes one load of it.
-fn read_little(field: &[u8]) -> u64
-    requires { ⌜ 8 ≤ length (now field) ⌝ }
-    ensures { λ r. ⌜ r ≡ little (part (now (field .entry)) 0 8) ⌝ }
+// Eight bytes as one number, `h` the least significant.
+fn of_eight(a: u8, b: u8, c: u8, d: u8, e: u8, f: u8, g: u8, h: u8) -> u64
+    ensures { λ r. ⌜ r ≡ little (h ∷ g ∷ f ∷ e ∷ d ∷ c ∷ b ∷ a ∷ []) ⌝ }
 {
-    let high = append(
-        append(append(append(0, field[7]), field[6]), field[5]),
-        field[4],
-    );
-    append(
-        append(append(append(high, field[3]), field[2]), field[1]),
-        field[0],
-    )
+    let high = append(append(append(append(0, a), b), c), d);
+    append(append(append(append(high, e), f), g), h)
+}
+
+// Eight bytes with the least significant first. The compiler makes one load of it.
+fn read_little(s: &[u8]) -> u64
+    requires { ⌜ 8 ≤ length (now s) ⌝ }
+    ensures { λ r. ⌜ r ≡ little (part (now (s .entry)) 0 8) ⌝ }
+{
+    of_eight(s[7], s[6], s[5], s[4], s[3], s[2], s[1], s[0])
 }
 
 // The eight bytes of `x` in the other order. The compiler makes one instruction of it.
 pub fn swapped(x: u64) -> u64
     ensures { λ r. ⌜ r ≡ little (bytesOf 8 x) ⌝ }
 {
-    let low = append(
-        append(append(0, low_byte(x)), low_byte(x >> 8)),
+    of_eight(
+        low_byte(x),
+        low_byte(x >> 8),
         low_byte(x >> 16),
-    );
-    let half = append(append(low, low_byte(x >> 24)), low_byte(x >> 32));
-    append(
-        append(append(half, low_byte(x >> 40)), low_byte(x >> 48)),
+        low_byte(x >> 24),
+        low_byte(x >> 32),
+        low_byte(x >> 40),
+        low_byte(x >> 48),
         low_byte(x >> 56),
     )
 }

@@ -12,7 +12,7 @@ use lib.Pow.{pow-add, pow-mono, mod-pow-add}
 use Rattle.formats.specs.Part.{part}
 use Rattle.formats.specs.Field.{number, bytesOf, little}
 use Rattle.formats.proofs.Bytes.{bytes, field}
-use Rattle.formats.proofs.Cells.{cells, of-cells, part-cells}
+use Rattle.formats.proofs.Cells.{of-cells}
 use Rattle.formats.proofs.Part.{part-length, put-whole}
 use Rattle.formats.proofs.Stores.{Storing, store, start as store-start, done as store-done}
 
@@ -120,22 +120,6 @@ write-done {before} {field} {x} {i} w h =
     let s = w .storing .size in
     let m : length before - i ≡ 0 = omega arith in
     store-done (rw m at (w .storing)) ∙ put-whole before (bytesOf (length before) x) (length-bytesOf (length before) x)
-
--- eight bytes with the least significant first
-pub little-eight : (l : List ℕ) → 8 ≤ length l
-    → little (part l 0 8)
-    ≡ getD l 0 0
-    + 256 * (getD l 1 0 + 256 * (getD l 2 0 + 256 * (getD l 3 0 + 256 * (getD l 4 0 + 256 * (getD l 5 0 + 256 * (getD l 6 0 + 256 * getD l 7 0))))))
-unfolding little
-little-eight l h = ap little (part-cells 8 0 l h) ∙ omega arith
-
--- and with the most significant first
-pub number-eight : (l : List ℕ) → 8 ≤ length l
-    → number (part l 0 8)
-    ≡ ((((((getD l 0 0 * 256 + getD l 1 0) * 256 + getD l 2 0) * 256 + getD l 3 0) * 256 + getD l 4 0) * 256 + getD l 5 0) * 256 + getD l 6 0) * 256
-    + getD l 7 0
-unfolding number
-number-eight l h = ap number (part-cells 8 0 l h) ∙ omega arith
 
 module _ (b1 b2 b3 b4 b5 b6 b7 b8 : ℕ) where
   -- eight bytes appended one by one: the last is the least significant
