@@ -7,6 +7,7 @@ use native.Mathlib.Omega.{arith}
 use native.Mathlib.Decide.{ℕ-discrete}
 use lib.ListN.{length}
 use lib.Dec.{lit<}
+use Rattle.formats.specs.Bytes.{Bytes}
 use Rattle.formats.specs.Half.{wiped}
 use Rattle.formats.specs.Title.{titleHalf}
 use Rattle.formats.specs.Rule.{ruleHalf, wipedRule}
@@ -24,7 +25,7 @@ use Rattle.formats.proofs.row.Laws.{here-length, here-bytes, plain-length, plai
 use Rattle.calls.specs.Count.{oneLess, oneMore}
 use Rattle.calls.specs.Buffers.{Buffers, rowAt, titleAt, ruleAt, rowFacts, contentAt, factsAt, isFull, withRow, withTitle, withRule}
 use Rattle.calls.specs.Effect.{afterMove, setPermits, writeEntry, wipeTitle, wipeEntry, effect}
-use Rattle.calls.specs.Perform.{perform, Bytes, AreBytes, InBounds, Demand1}
+use Rattle.calls.specs.Perform.{perform, AreBytes, InBounds, Demand1}
 use Rattle.calls.proofs.Refusals.{unchanged, carried-out, refused-first}
 use Rattle.calls.proofs.Passed.{Passed, passed, on-card, its-row, away-row, a-copy, a-holder, deletes}
 use Rattle.calls.proofs.Views.{IsRow, row-inside, row-length, entry-inside, entry-length}

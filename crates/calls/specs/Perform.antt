@@ -1,11 +1,12 @@
 -- A call on the buffers: its answer, and the buffers after it.
-use Prim.Native.Nat.{ℕ, _<_}
+use Prim.Native.Nat.{ℕ}
 use mathlib.Core.Path.{_≡_}
 use mathlib.Core.Logic.{_≢_}
 use mathlib.Core.List.{List, [], _∷_}
 use mathlib.Core.Bool.{cond}
 use lib.Dec.{eqb}
-use lib.ListN.{length, getD}
+use lib.ListN.{length}
+use Rattle.formats.specs.Bytes.{Bytes}
 use Rattle.requests.specs.declared.request.Request.{Request}
 use Rattle.requests.specs.declared.request.Request.the-variants.{Register, Record, CheckOut, CheckIn, MoveOut, MoveIn, Delete}
 use Rattle.calls.specs.Buffers.{Buffers}
@@ -49,10 +50,6 @@ pub record RefusedFirst (k : Request) (b : Buffers) : Type 0 where
   pub accepted : NoneHolds (conditions k b) → perform k b .answer ≡ 0
   pub only-accepted : perform k b .answer ≡ 0 → NoneHolds (conditions k b)
   pub carried-out : perform k b .answer ≡ 0 → perform k b .buffers ≡ effect k b
-
--- a list of bytes
-abbrev pub Bytes : List ℕ → Type 0
-Bytes l = (i : ℕ) → getD l i 0 < 256
 
 pub record AreBytes (b : Buffers) : Type 0 where
   pub ledger : Bytes (b .ledger)

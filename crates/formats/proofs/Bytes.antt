@@ -5,14 +5,11 @@ use mathlib.Core.List.{List, [], _∷_, _++_}
 use native.Mathlib.Omega.{arith}
 use lib.ListN.{length, take, drop, getD, replicate}
 use lib.Seq.{getD-drop}
+use Rattle.formats.specs.Bytes.{Bytes}
 use Rattle.formats.specs.Part.{part, put}
 use Rattle.formats.specs.Field.{bytesOf}
 
--- every element of l is a byte, and so is what counts for a place past its end
-abbrev pub Bytes : List ℕ → Type 0
-Bytes l = (j : ℕ) → getD l j 0 < 256
-
--- the same, element after element: the form in which it is shown of a list that is put together
+-- the elements of a list are bytes, one after another: the form in which it is shown of a list that is put together
 pub data Listed : List ℕ → Type 0 where
   none : Listed []
   more : (a : ℕ) {l : List ℕ} → a < 256 → Listed l → Listed (a ∷ l)

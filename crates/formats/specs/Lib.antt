@@ -1,4 +1,6 @@
 pub mod Refusal
+pub mod Answer
+pub mod Bytes
 pub mod Part
 pub mod Field
 pub mod Facts

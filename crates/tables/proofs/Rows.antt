@@ -11,7 +11,8 @@ use Rattle.formats.specs.Part.{part}
 use Rattle.formats.specs.Field.{number}
 use Rattle.formats.specs.Head.{rowsOf}
 use Rattle.formats.proofs.Part.{part-most}
-use Rattle.formats.proofs.Bytes.{Bytes, Listed, none, more, listed, bytes-part}
+use Rattle.formats.specs.Bytes.{Bytes}
+use Rattle.formats.proofs.Bytes.{Listed, none, more, listed, bytes-part}
 
 -- bytes hold a number of so many bits
 below : {l : List ℕ} → Listed l → number l < 2 ^ (8 * length l)

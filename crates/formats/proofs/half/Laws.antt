@@ -16,7 +16,8 @@ use Rattle.formats.specs.Part.{part, put}
 use Rattle.formats.specs.Field.{number, bytesOf, little}
 use Rattle.formats.specs.Half.{keyOf, flagOf, idOf, usableOf, usableId, flaggedWith, halfBytes, wiped, changedHalf}
 use Rattle.formats.proofs.Part.{part-length, put-length, getD-put-before, part-put-before}
-use Rattle.formats.proofs.Bytes.{Bytes, Listed, none, more, then, zeros, field, bytes-part, bytes-put}
+use Rattle.formats.specs.Bytes.{Bytes}
+use Rattle.formats.proofs.Bytes.{Listed, none, more, then, zeros, field, bytes-part, bytes-put}
 use Rattle.formats.proofs.Cells.{part-cells}
 use Rattle.formats.proofs.Tests.{split, and-false}
 use Rattle.formats.proofs.Zeros.{zero-at}

@@ -14,7 +14,8 @@ use Rattle.formats.specs.Part.{part, put}
 use Rattle.formats.specs.Field.{number, bytesOf}
 use Rattle.formats.specs.Head.{ledgerApplication, rowsOf, ledgerPasses, tablePasses, titlesPass, rulesPass, rulesApplication, ledgerAnswer, titlesAnswer, rulesAnswer, rulesAnswerFor, freshLedger, tableHead, freshTitles, freshRules}
 use Rattle.formats.proofs.Part.{part-length, getD-part, put-length, part-put-before, getD-put-before}
-use Rattle.formats.proofs.Bytes.{Bytes, Listed, none, more, bytes, then, zeros, field}
+use Rattle.formats.specs.Bytes.{Bytes}
+use Rattle.formats.proofs.Bytes.{Listed, none, more, bytes, then, zeros, field}
 use Rattle.formats.proofs.field.Laws.{length-bytesOf, number-whole}
 use Rattle.formats.proofs.Tests.{split, both, either, one-holds, refuses}
 

@@ -9,7 +9,7 @@ use lib.Bits.{bitAnd, and-block, and-mask}
 use lib.ListN.{length, getD}
 use Rattle.formats.specs.Part.{part}
 use Rattle.formats.specs.Field.{number}
-use Rattle.formats.proofs.Bytes.{Bytes}
+use Rattle.formats.specs.Bytes.{Bytes}
 use Rattle.formats.proofs.Cells.{part-cells}
 use Rattle.formats.proofs.field.Laws.{number-first, number-below}
 use Rattle.formats.proofs.head.Laws.{TableHead, TitlesHead, RulesHead}

@@ -22,7 +22,8 @@ use Rattle.formats.proofs.field.Laws.{number-whole, number-below, numbe
 use Rattle.formats.proofs.field.Joined.{low-bytes, joined-bytes}
 use Rattle.formats.proofs.Bits.{low-eight}
 use Rattle.formats.proofs.Part.{put-length}
-use Rattle.formats.proofs.Bytes.{Bytes, none, more, bytes, then, zeros, field, bytes-put}
+use Rattle.formats.specs.Bytes.{Bytes}
+use Rattle.formats.proofs.Bytes.{none, more, bytes, then, zeros, field, bytes-put}
 use Rattle.formats.proofs.Cells.{cells, of-cells}
 use Rattle.formats.proofs.facts.Laws.{Ranges, ranges, in-range, facts-same, permitting}
 

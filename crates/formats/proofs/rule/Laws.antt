@@ -13,7 +13,8 @@ use Rattle.formats.specs.declared.facts.Facts.{Facts}
 use Rattle.formats.specs.declared.facts.Fillers.{Fillers}
 use Rattle.formats.proofs.Part.{put-length, part-put-same}
 use Rattle.formats.proofs.field.Laws.{length-bytesOf, number-whole}
-use Rattle.formats.proofs.Bytes.{Bytes, more, bytes, then, zeros, field, bytes-put}
+use Rattle.formats.specs.Bytes.{Bytes}
+use Rattle.formats.proofs.Bytes.{more, bytes, then, zeros, field, bytes-put}
 use Rattle.formats.proofs.half.Laws.{length-halfBytes, Written, half-written, half-bytes, Wiped, half-wiped, still-wiped, wiped-length, wiped-bytes}
 
 -- the reserved bits of a rule half beside those that all halves have

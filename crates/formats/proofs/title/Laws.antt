@@ -8,7 +8,8 @@ use lib.ListN.{length, getD}
 use Rattle.formats.specs.Field.{bytesOf}
 use Rattle.formats.specs.Half.{halfBytes}
 use Rattle.formats.specs.Title.{cciOf, titleHalf}
-use Rattle.formats.proofs.Bytes.{Bytes, bytes}
+use Rattle.formats.specs.Bytes.{Bytes}
+use Rattle.formats.proofs.Bytes.{bytes}
 use Rattle.formats.proofs.half.Laws.{length-halfBytes, Written, half-written, half-bytes}
 
 module _ (cci key id : ℕ) where

@@ -14,7 +14,8 @@ use borrow.Author.Tests.{ltb-false, lt-ltb, le-ltb, eq-eqb, ne-eqb}
 use lib.ListN.{length, take}
 use lib.Dec.{ltb, eqb}
 use Rattle.formats.specs.Part.{put}
-use Rattle.formats.proofs.Bytes.{Bytes, Listed, none, more, bytes}
+use Rattle.formats.specs.Bytes.{Bytes}
+use Rattle.formats.proofs.Bytes.{Listed, none, more, bytes}
 use Rattle.requests.specs.Number.{groupsIn, groups, withGroup, readFrom, readNumber, writing, writtenTo}
 use Rattle.requests.specs.declared.number.NumberRead.{NumberRead}
 use Rattle.requests.specs.declared.number.NumberRead.the-variants.{Number, Refused}

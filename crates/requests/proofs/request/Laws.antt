@@ -21,7 +21,8 @@ use Rattle.requests.specs.declared.request.Request.{Request}
 use Rattle.requests.specs.declared.request.Request.the-variants.{Register, Record, CheckOut, CheckIn, MoveOut, MoveIn, Delete}
 use Rattle.requests.specs.declared.request.RequestRead.{RequestRead}
 use Rattle.requests.specs.declared.request.RequestRead.the-variants.{Read, Refused}
-use Rattle.formats.proofs.Bytes.{Bytes, bytes-drop}
+use Rattle.formats.specs.Bytes.{Bytes}
+use Rattle.formats.proofs.Bytes.{bytes-drop}
 use Rattle.formats.proofs.Cells.{cells, of-cells}
 use Rattle.formats.proofs.Tests.{split, passed}
 use Rattle.requests.proofs.number.Laws.{reading-undoes-writing, only-written, read-below, read-within, read-positive, refusals, read-stays, refused-stays}

@@ -6,7 +6,7 @@ use native.Mathlib.Omega.{arith}
 use borrow.Author.Needs.{needs}
 use denote.Ref.{now}
 use Rattle.formats.specs.Row.{factsOf}
-use Rattle.formats.proofs.Bytes.{Bytes}
+use Rattle.formats.specs.Bytes.{Bytes}
 use Rattle.formats.proofs.facts.Laws.{facts-same}
 use Rattle.formats.proofs.row.Laws.{key-of-eight}
 use Rattle.formats.proofs.row.facts.Statement.{statement}
