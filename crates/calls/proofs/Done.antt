@@ -1,206 +1,297 @@
--- What a done call leaves: its row and its entry as they should be, and all others as they were.
+-- What a done call leaves: its row and its entry.
 -- Assumes nothing.
-use Prim.Native.Nat.{ℕ, _*_, _≤_, _<_, _^_}
-use mathlib.Core.Path.{_≡_, refl, sym, ap, _∙_}
+use Prim.Native.Nat.{ℕ, _*_, _≤_, _<_, _%_, _^_}
+use mathlib.Core.Path.{_≡_, refl, sym, ap, ap₂, subst, _∙_}
 use mathlib.Core.Logic.{_≢_}
-use mathlib.Core.List.{List}
+use mathlib.Core.List.{List, [], _∷_}
+use mathlib.Core.Bool.{Bool, true, false, cond}
 use native.Mathlib.Omega.{arith}
-use lib.ListN.{length}
-use Rattle.formats.specs.Rule.{wipedRule}
-use Rattle.formats.specs.Half.{wiped}
-use Rattle.formats.specs.Row.{stateOf, hereRow, withPermits}
-use Rattle.formats.specs.declared.facts.ContentId.{ContentId}
-use Rattle.formats.specs.declared.facts.EntryNumber.{EntryNumber}
+use native.Mathlib.Decide.{decLt}
+use lib.ListN.{length, getD}
+use lib.Dec.{eqb}
+use Rattle.formats.specs.Part.{put}
+use Rattle.formats.specs.Half.{keyOf, idOf, wiped}
+use Rattle.formats.specs.Title.{cciOf, titleHalf}
+use Rattle.formats.specs.Rule.{hashOf, ruleHalf, wipedRule}
+use Rattle.formats.specs.Entry.{kindOf, entryFacts}
+use Rattle.formats.specs.Row.{stateOf, hereRow, plainRow, withPermits}
 use Rattle.formats.specs.declared.facts.Facts.{Facts}
 use Rattle.formats.specs.declared.facts.Fillers.{Fillers}
-use Rattle.requests.specs.declared.request.Request.the-variants.{Register, Record, CheckOut, CheckIn, MoveOut, MoveIn, Delete}
-use Rattle.formats.specs.declared.entry.EntryKind.the-variants.{Copy, Full}
+use Rattle.formats.specs.declared.entry.EntryKind.{EntryKind}
+use Rattle.formats.specs.declared.entry.EntryKind.the-variants.{Free, Copy, Full}
 use Rattle.formats.specs.declared.row.RowState.{RowState}
 use Rattle.formats.specs.declared.row.RowState.the-variants.{Here, Away, Gone}
+use Rattle.requests.specs.declared.request.Request.{Request}
+use Rattle.requests.specs.declared.request.Request.the-variants.{Register, Record, CheckOut, CheckIn, MoveOut, MoveIn, Delete}
 use Rattle.formats.proofs.Bytes.{bytes-part}
+use Rattle.formats.proofs.Part.{getD-put-before, getD-put-after}
 use Rattle.formats.proofs.facts.Laws.{Ranges, ranges, in-range, permitting}
-use Rattle.formats.proofs.half.Laws.{wiped-length}
-use Rattle.formats.proofs.title.Laws.{length-titleHalf}
-use Rattle.formats.proofs.rule.Laws.{length-ruleHalf, wipedRule-length}
-use Rattle.formats.proofs.entry.Laws.{of-free, of-full, entry-facts-range, entry-keys}
-use Rattle.formats.proofs.row.Laws.{here-length, plain-length, permits-length, state-here, state-plain-away, state-plain-gone, state-permits, here-facts, here-keys}
+use Rattle.formats.proofs.half.Laws.{written-key, written-id, half-wiped, wiped-key-gone}
+use Rattle.formats.proofs.title.Laws.{length-titleHalf, title-written, title-cci}
+use Rattle.formats.proofs.rule.Laws.{length-ruleHalf, rule-hash, rule-wiped}
+use Rattle.formats.proofs.entry.Laws.{of-free, of-full, kind-copy, kind-full, copy-wiped, both-wiped, entry-facts-back, entry-facts-range, entry-keys}
+use Rattle.formats.proofs.row.Laws.{here-length, plain-length, state-here, state-plain-away, state-plain-gone, state-permits, here-facts, here-keys}
 use Rattle.calls.specs.Count.{oneLess, oneMore}
-use Rattle.calls.specs.Buffers.{Buffers, rowAt, titleAt, ruleAt, stateAt, rowFacts, kindAt, contentAt, factsAt, isFull, withRow, withTitle, withRule}
-use Rattle.calls.specs.Effect.{afterMove, setPermits, effect}
-use Rattle.calls.specs.Perform.{AreBytes}
+use Rattle.calls.specs.Buffers.{Buffers, lent, rowAt, titleAt, ruleAt, stateAt, rowFacts, hereFacts, kindAt, contentAt, factsAt, isFull, withRow, Within}
+use Rattle.calls.specs.Effect.{afterMove, effect}
+use Rattle.calls.specs.Conditions.{conditions}
+use Rattle.calls.specs.Perform.{refusal, perform, AreBytes}
+use Rattle.calls.specs.Needs.{a-copy, a-holder, WipesTitleKey, WipesStiKey, Needs}
+use Rattle.calls.specs.Work.{RowIs, Recounted, PermitsBecome, FullEntry, TitleWiped, RuleWiped, Left, WorkIsDone, RegisterByLedger}
 use Rattle.calls.proofs.Counts.{less-most, more-most}
-use Rattle.calls.proofs.Passed.{are-facts, is-free, is-copy, is-full, is-here, Passed, OnCard, on-card, its-row, away-row}
-use Rattle.calls.proofs.Views.{IsRow, state-of-row, row-numbered, row-length, row-written, row-else, placeOf, view, entry-length, copy-place, full-place, wiped-copy-place, wiped-full-place, place-title, place-title-else, place-both, place-both-else}
-use Rattle.calls.proofs.History.Totals.{Within}
-use Rattle.calls.proofs.History.Titles.{Place, vacant, copy, full}
+use Rattle.calls.proofs.Refusals.{carried-out}
+use Rattle.calls.proofs.Passed.{to-ranges, needs-met, done-where, OnCard, on-card, its-row, row-in}
+use Rattle.calls.proofs.Slots.{slot-same, slots-kept}
+use Rattle.calls.proofs.Views.{IsRow, state-of-row, row-numbered, row-inside, row-length, row-reads, entry-length, entry-same}
+use Rattle.calls.proofs.Untouched.{permits-long, rule-long, wiped-title-long, wiped-rule-long, untouched}
 
--- row c and entry j after a call, and the others
-pub record Leaves (b after : Buffers) (c j : ℕ) (r : RowState) (q : Place) : Type 0 where
-  pub row : stateAt after c ≡ r
-  pub place : view after .places j ≡ q
-  pub rows-else : (d : ℕ) → d ≢ c → stateAt after d ≡ stateAt b d
-  pub places-else : (i : ℕ) → Within 999 i → i ≢ j → view after .places i ≡ view b .places i
+-- THE ROW
+
+-- the row that was written reads as its bytes say
+module _ (ledger : List ℕ) (c : ℕ) (is : IsRow ledger c) (row : List ℕ) (size : length row ≡ 24) where
+  row-bytes : rowAt (put ledger (24 * c) row) c ≡ row
+  row-bytes = slot-same 24 ledger row c (row-inside ledger c is) size
+
+  row-is : (titles rules : List ℕ) (s : RowState) → stateOf row ≡ s → RowIs (lent (put ledger (24 * c) row) titles rules) c s row
+  row-is titles rules s reads =
+      record {
+        reads = row-reads (slots-kept 24 ledger row c (row-inside ledger c is) size (is .from)) is ∙ ap stateOf row-bytes ∙ reads;
+        bytes-are = row-bytes;
+      }
+
+-- facts with other counts
+recounted-permits : (f : Facts) (p : ℕ) {g : Facts} → g ≡ permitting f p → Recounted f (f .rights) p g
+recounted-permits f p e = rw e record { cci = refl; trigger = refl; rights-are = refl; permits-are = refl; title-key = refl; sti-key = refl }
+
+recounted-move : (f : Facts) {g : Facts} → g ≡ afterMove f → Recounted f (oneLess (f .rights)) (f .permits) g
+recounted-move f e = rw e record { cci = refl; trigger = refl; rights-are = refl; permits-are = refl; title-key = refl; sti-key = refl }
+
+-- the bytes of a row with other permits, but for byte 4
+other-bytes : (row : List ℕ) (p : ℕ) → length row ≡ 24 → (i : ℕ) → i ≢ 4 → getD (withPermits row p) i 0 ≡ getD row i 0
+unfolding withPermits
+other-bytes row p long i other =
+    elim (decLt i 4) [
+      | yes before ↦ getD-put-before row (p % 256 ∷ []) 4 (omega arith) i before
+      | no behind ↦ getD-put-after row (p % 256 ∷ []) 4 (omega arith) i (omega arith)
+    ]
 
 -- facts after a move are in their ranges
 after-move-ranges : (f : Facts) → Ranges f → Ranges (afterMove f)
 after-move-ranges f r = record { cci = r .cci; kind = r .kind; trigger = r .trigger; rights = less-most (f .rights) (r .rights); permits = r .permits }
 
+-- a row that is here has the facts that are read from it
+here-is : (b : Buffers) (c : ℕ) (f : Facts) → stateAt b c ≡ Here f → stateAt b c ≡ Here (rowFacts b c)
+here-is b c f e = e ∙ ap (λ (s : RowState). Here (hereFacts s)) (sym e)
+
 module _ (b : Buffers) where
   -- a row that is here, as its bytes say
-  pub record HereRow (c : ℕ) : Type 0 where
-    pub is-row : IsRow (b .ledger) c
-    pub reads : stateOf (rowAt (b .ledger) c) ≡ Here (rowFacts b c)
-    pub in-ranges : Ranges (rowFacts b c)
+  record HereRow (c : ℕ) : Type 0 where
+    is-row : IsRow (b .ledger) c
+    reads : stateOf (rowAt (b .ledger) c) ≡ Here (rowFacts b c)
+    in-ranges : Ranges (rowFacts b c)
 
-  pub here-row : (c : ℕ) → IsRow (b .ledger) c → stateAt b c ≡ Here (rowFacts b c) → HereRow c
+  here-row : (c : ℕ) → IsRow (b .ledger) c → stateAt b c ≡ Here (rowFacts b c) → HereRow c
   here-row c is e =
       let reads = sym (state-of-row (b .ledger) c (is .from) (is .to)) ∙ e in
       record { is-row = is; reads = reads; in-ranges = ranges (here-facts (rowAt (b .ledger) c) reads .passes) }
 
   -- its keys, where the ledger holds bytes
-  pub row-keys : (c : ℕ) → AreBytes b → HereRow c → (rowFacts b c .«title_key» < 2 ^ 56) × (rowFacts b c .«sti_key» < 2 ^ 56)
+  row-keys : (c : ℕ) → AreBytes b → HereRow c → (rowFacts b c .«title_key» < 2 ^ 56) × (rowFacts b c .«sti_key» < 2 ^ 56)
   row-keys c are-bytes h = here-keys (rowAt (b .ledger) c) (h .reads) (row-length (b .ledger) c (h .is-row)) (bytes-part (b .ledger) (24 * c) 24 (are-bytes .ledger))
 
-  -- ROW AND ENTRY WRITTEN: what each way of writing them leaves
-
-  -- a row with other permits, and a title half
-  permits-and-title : {c j p : ℕ} (t : List ℕ) {q : Place} → HereRow c → OnCard b j → p ≤ 15 → length t ≡ 16
-      → placeOf t (ruleAt (b .rules) j) ≡ q → Leaves b (withTitle j t (setPermits c p b)) c j (Here (permitting (rowFacts b c) p)) q
-  permits-and-title {c} {j} {p} t h o small size makes =
+  -- other permits, and no other byte of the row
+  permits-become : (c p : ℕ) (titles rules : List ℕ) → HereRow c → p ≤ 15
+      → PermitsBecome b (lent (put (b .ledger) (24 * c) (withPermits (rowAt (b .ledger) c) p)) titles rules) c p
+  permits-become c p titles rules h small =
+      let row = rowAt (b .ledger) c in
       let long = row-length (b .ledger) c (h .is-row) in
-      let row = withPermits (rowAt (b .ledger) c) p in
-      let row-size = permits-length (rowAt (b .ledger) c) p long in
+      let f = permitting (rowFacts b c) p in
+      let after = lent (put (b .ledger) (24 * c) (withPermits row p)) titles rules in
+      let it = row-is (b .ledger) c (h .is-row) (withPermits row p) (permits-long b c p (h .is-row)) titles rules (Here f) (state-permits row p long (h .reads) small) in
       record {
-        row = row-written (b .ledger) c (h .is-row) row row-size ∙ state-permits (rowAt (b .ledger) c) p long (h .reads) small;
-        place = place-title b (o .titles-long) (o .rules-long) j (o .entry) t size ∙ makes;
-        rows-else = row-else (b .ledger) c (h .is-row) row row-size;
-        places-else = place-title-else b (o .titles-long) (o .rules-long) j (o .entry) t size;
+        here = here-is after c f (it .reads);
+        facts = recounted-permits (rowFacts b c) p (ap hereFacts (it .reads));
+        bytes = λ i other. ap (λ (r : List ℕ). getD r i 0) (it .bytes-are) ∙ other-bytes row p long i other;
       }
 
-  -- a whole row, and both halves
-  row-and-halves : {c j : ℕ} (row t r : List ℕ) {s : RowState} {q : Place} → IsRow (b .ledger) c → OnCard b j → length row ≡ 24 → length t ≡ 16 → length r ≡ 32
-      → stateOf row ≡ s → placeOf t r ≡ q → Leaves b (withTitle j t (withRule j r (withRow c row b))) c j s q
-  row-and-halves {c} {j} row t r is o row-size t-size r-size reads makes =
-      record {
-        row = row-written (b .ledger) c is row row-size ∙ reads;
-        place = place-both b (o .titles-long) (o .rules-long) j (o .entry) t t-size r r-size ∙ makes;
-        rows-else = row-else (b .ledger) c is row row-size;
-        places-else = place-both-else b (o .titles-long) (o .rules-long) j (o .entry) t t-size r r-size;
-      }
+-- THE ENTRY
 
-  -- a full entry's facts, where its halves hold bytes
-  record FullFacts (j : ℕ) : Type 0 where
+-- an entry is what its halves make
+kind-is : {t t′ r r′ : List ℕ} {k : EntryKind} → t ≡ t′ → r ≡ r′ → kindOf t′ r′ ≡ k → kindOf t r ≡ k
+kind-is t-is r-is e = ap₂ kindOf t-is r-is ∙ e
+
+-- both halves written
+full-entry : (b : Buffers) (j c : ℕ) (f : Facts) (h : ℕ) → Within 999 c → Ranges f → f .«title_key» < 2 ^ 56 → f .«sti_key» < 2 ^ 56
+    → titleAt (b .titles) j ≡ titleHalf (f .cci) (f .«title_key») c → ruleAt (b .rules) j ≡ ruleHalf f h c → FullEntry b j c f h
+full-entry b j c f h is ok title-key sti-key t-is r-is =
+    record {
+      full = kind-is t-is r-is (kind-full (f .cci) (f .«title_key») c (is .from) (is .to) (omega (arith, ok .cci)) (ok .kind) f h);
+      id = ap idOf t-is ∙ written-id (title-written (f .cci) (f .«title_key») c) (omega (arith, is .to));
+      facts = ap₂ entryFacts t-is r-is ∙ entry-facts-back f h c ok title-key sti-key;
+      hash = λ small. ap hashOf r-is ∙ rule-hash f h c small;
+      title-half = t-is;
+      rule-half = r-is;
+    }
+
+module _ (b : Buffers) (j : ℕ) (o : OnCard b j) where
+  abbrev t : List ℕ
+  t = titleAt (b .titles) j
+
+  abbrev r : List ℕ
+  r = ruleAt (b .rules) j
+
+  -- the halves that were written
+  title-is : (p : List ℕ) → length p ≡ 16 → titleAt (put (b .titles) (16 * j) p) j ≡ p
+  title-is p size = entry-same 16 (b .titles) (o .titles-long) p size j (o .entry)
+
+  rule-is : (p : List ℕ) → length p ≡ 32 → ruleAt (put (b .rules) (32 * j) p) j ≡ p
+  rule-is p size = entry-same 32 (b .rules) (o .rules-long) p size j (o .entry)
+
+  title-wiped : (f1 : ℕ) (ledger rules : List ℕ) → WipesTitleKey b j f1 → TitleWiped j f1 b (lent ledger (put (b .titles) (16 * j) (wiped t f1)) rules)
+  title-wiped f1 ledger rules other =
+      let e = title-is (wiped t f1) (wiped-title-long b j o f1) in
+      record { title-half = e; key-gone = λ same. wiped-key-gone (half-wiped t f1) other (ap keyOf (sym e) ∙ same) }
+
+  rule-half-wiped : (f : Fillers) (ledger titles : List ℕ) → WipesStiKey b j (f .f2) → RuleWiped j f b (lent ledger titles (put (b .rules) (32 * j) (wipedRule r f)))
+  rule-half-wiped f ledger titles other =
+      let e = rule-is (wipedRule r f) (wiped-rule-long b j o f) in
+      record { rule-half = e; key-gone = λ same. wiped-key-gone (rule-wiped r f (rule-long b j o)) other (ap keyOf (sym e) ∙ same) }
+
+  -- a copy whose title half is wiped is free, and so is a full entry both of whose halves are
+  free-copy : (f1 : ℕ) → kindAt b j ≡ Copy → kindOf (titleAt (put (b .titles) (16 * j) (wiped t f1)) j) r ≡ Free
+  free-copy f1 k = kind-is (title-is (wiped t f1) (wiped-title-long b j o f1)) refl (copy-wiped t r f1 k)
+
+  free-full : (f : Fillers) → kindOf (titleAt (put (b .titles) (16 * j) (wiped t (f .f1))) j) (ruleAt (put (b .rules) (32 * j) (wipedRule r f)) j) ≡ Free
+  free-full f =
+      kind-is (title-is (wiped t (f .f1)) (wiped-title-long b j o (f .f1))) (rule-is (wipedRule r f) (wiped-rule-long b j o f))
+      (both-wiped t r (f .f1) f (rule-long b j o))
+
+  -- the facts of a full entry, where its halves hold bytes
+  record FullFacts : Type 0 where
     in-ranges : Ranges (factsAt b j)
     title-key : factsAt b j .«title_key» < 2 ^ 56
     sti-key : factsAt b j .«sti_key» < 2 ^ 56
 
-  full-facts : (j : ℕ) → AreBytes b → OnCard b j → kindAt b j ≡ Full → FullFacts j
-  full-facts j are-bytes o k =
-      let t = titleAt (b .titles) j in
-      let r = ruleAt (b .rules) j in
+  full-facts : AreBytes b → kindAt b j ≡ Full → FullFacts
+  full-facts are-bytes k =
       let t-bytes = bytes-part (b .titles) (16 * j) 16 (are-bytes .titles) in
       let r-bytes = bytes-part (b .rules) (32 * j) 32 (are-bytes .rules) in
       let keys = entry-keys t r t-bytes r-bytes (entry-length 16 (b .titles) (o .titles-long) j (o .entry)) (entry-length 32 (b .rules) (o .rules-long) j (o .entry)) in
       record { in-ranges = entry-facts-range t r t-bytes r-bytes (of-full t r k .title-sound); title-key = keys .0; sti-key = keys .1 }
 
-  -- an entry's halves and their wiped forms have the halves' lengths
-  module _ (j : ℕ) (o : OnCard b j) where
-    pub rule-long : length (ruleAt (b .rules) j) ≡ 32
-    rule-long = entry-length 32 (b .rules) (o .rules-long) j (o .entry)
+-- THE SEVEN CALLS
 
-    pub wiped-title-long : (f1 : ℕ) → length (wiped (titleAt (b .titles) j) f1) ≡ 16
-    wiped-title-long f1 = let long = entry-length 16 (b .titles) (o .titles-long) j (o .entry) in wiped-length (titleAt (b .titles) j) f1 (omega arith) ∙ long
-
-    pub wiped-rule-long : (f : Fillers) → length (wipedRule (ruleAt (b .rules) j) f) ≡ 32
-    wiped-rule-long f = wipedRule-length (ruleAt (b .rules) j) f rule-long ∙ rule-long
-
-  -- THE SEVEN CALLS
-
-  pub register-leaves : (c : ContentId) (f : Facts) → Passed (Register c f) b → Leaves b (effect (Register c f) b) (c .0) 0 (Here f) (view b .places 0)
+module _ (b : Buffers) (are-bytes : AreBytes b) where
+  leaves : (k : Request) → Needs k b → Left k b (effect k b)
   unfolding effect
-  register-leaves c f t =
-      let g = are-facts f (t 6 .0) in
-      let is = its-row (Register c f) b t in
+  leaves (Register c f) n =
+      let is = its-row (Register c f) b n in
+      let g = n .facts in
       record {
-        row = row-written (b .ledger) (c .0) is (hereRow f) (here-length f) ∙ state-here f (g .passes) (g .title-key) (g .sti-key);
-        place = refl;
-        rows-else = row-else (b .ledger) (c .0) is (hereRow f) (here-length f);
-        places-else = λ i l ne. refl;
+        row = row-is (b .ledger) (c .0) is (hereRow f) (here-length f) _ _ (Here f) (state-here f (in-range (to-ranges g)) (g .title-key) (g .sti-key));
+        titles = refl;
+        rules = refl;
       }
-
-  pub record-leaves : (c : ContentId) (j : EntryNumber) (f : Facts) (h : ℕ) → Passed (Record c j f h) b
-      → Leaves b (effect (Record c j f h) b) (c .0) (j .0) Away (full (c .0) f)
-  unfolding effect
-  record-leaves c j f h t =
-      let o = on-card (Record c j f h) b t in
-      let g = are-facts f (t 6 .0) in
-      let is = its-row (Record c j f h) b t in
-      row-and-halves _ _ _ is o (plain-length 2) (length-titleHalf (f .cci) (f .«title_key») (c .0)) (length-ruleHalf f h (c .0)) state-plain-away
-      (full-place (c .0) (row-numbered (b .ledger) (c .0) is) f h (g .in-ranges) (g .title-key) (g .sti-key))
-
-  pub check-out-leaves : (c : ContentId) (j : EntryNumber) → Passed (CheckOut c j) b
-      → Leaves b (effect (CheckOut c j) b) (c .0) (j .0) (Here (permitting (rowFacts b (c .0)) (oneLess (rowFacts b (c .0) .permits)))) (copy (c .0))
-  unfolding effect
-  check-out-leaves c j t =
-      let o = on-card (CheckOut c j) b t in
+  leaves (Record c j f h) n =
+      let o = on-card (Record c j f h) b n in
+      let g = n .facts in
+      record {
+        row = row-is (b .ledger) (c .0) (its-row (Record c j f h) b n) (plainRow 2) (plain-length 2) _ _ Away state-plain-away;
+        entry =
+            full-entry _ (j .0) (c .0) f h (n .content) (to-ranges g) (g .title-key) (g .sti-key)
+            (title-is b (j .0) o _ (length-titleHalf (f .cci) (f .«title_key») (c .0))) (rule-is b (j .0) o _ (length-ruleHalf f h (c .0)));
+      }
+  leaves (CheckOut c j) n =
+      let o = on-card (CheckOut c j) b n in
       let f = rowFacts b (c .0) in
-      let h = here-row (c .0) (its-row (CheckOut c j) b t) (is-here (stateAt b (c .0)) (t 11 .0)) in
-      let unusable = of-free _ _ (is-free (kindAt b (j .0)) (t 10 .0)) .rule-unusable in
-      permits-and-title _ h o (less-most (f .permits) (h .in-ranges .permits)) (length-titleHalf (f .cci) (f .«title_key») (c .0))
-      (copy-place (c .0) (row-numbered (b .ledger) (c .0) (h .is-row)) (f .cci) (f .«title_key») _ (omega (arith, h .in-ranges .cci)) (h .in-ranges .kind) unusable)
-
-  pub check-in-leaves : (j : EntryNumber) (f1 : ℕ) → Passed (CheckIn j f1) b
-      → Leaves b (effect (CheckIn j f1) b) (contentAt b (j .0)) (j .0)
-      (Here (permitting (rowFacts b (contentAt b (j .0))) (oneMore (rowFacts b (contentAt b (j .0)) .permits)))) vacant
-  unfolding effect
-  check-in-leaves j f1 t =
-      let o = on-card (CheckIn j f1) b t in
-      let c = contentAt b (j .0) in
-      let h = here-row c (its-row (CheckIn j f1) b t) (is-here (stateAt b c) (t 11 .0)) in
-      permits-and-title _ h o (more-most (rowFacts b c .permits) (h .in-ranges .permits)) (wiped-title-long (j .0) o f1)
-      (wiped-copy-place _ _ f1 (is-copy (kindAt b (j .0)) (t 10 .0)))
-
-  pub move-out-leaves : (j : EntryNumber) (h : ℕ) (f : Fillers) → AreBytes b → Passed (MoveOut j h f) b
-      → Leaves b (effect (MoveOut j h f) b) (contentAt b (j .0)) (j .0) (Here (afterMove (factsAt b (j .0)))) vacant
-  unfolding effect
-  move-out-leaves j h f are-bytes t =
-      let o = on-card (MoveOut j h f) b t in
-      let c = contentAt b (j .0) in
-      let g = factsAt b (j .0) in
-      let i = full-facts (j .0) are-bytes o (is-full (kindAt b (j .0)) (t 10 .0)) in
-      let is = its-row (MoveOut j h f) b t in
-      row-and-halves _ _ _ is o (here-length (afterMove g)) (wiped-title-long (j .0) o (f .f1)) (wiped-rule-long (j .0) o f)
-      (state-here (afterMove g) (in-range (after-move-ranges g (i .in-ranges))) (i .title-key) (i .sti-key)) (wiped-full-place _ _ f (rule-long (j .0) o))
-
-  pub move-in-leaves : (c : ContentId) (j : EntryNumber) (h : ℕ) → AreBytes b → Passed (MoveIn c j h) b
-      → Leaves b (effect (MoveIn c j h) b) (c .0) (j .0) Away (full (c .0) (afterMove (rowFacts b (c .0))))
-  unfolding effect
-  move-in-leaves c j h are-bytes t =
-      let o = on-card (MoveIn c j h) b t in
-      let f = afterMove (rowFacts b (c .0)) in
-      let i = here-row (c .0) (its-row (MoveIn c j h) b t) (is-here (stateAt b (c .0)) (t 11 .0)) in
-      let keys = row-keys (c .0) are-bytes i in
-      row-and-halves _ _ _ (i .is-row) o (plain-length 2) (length-titleHalf (f .cci) (f .«title_key») (c .0)) (length-ruleHalf f h (c .0)) state-plain-away
-      (full-place (c .0) (row-numbered (b .ledger) (c .0) (i .is-row)) f h (after-move-ranges (rowFacts b (c .0)) (i .in-ranges)) (keys .0) (keys .1))
-
-  -- a delete of a copy leaves its row
-  pub delete-copy-leaves : (j : EntryNumber) (f : Fillers) → OnCard b (j .0) → kindAt b (j .0) ≡ Copy
-      → Leaves b (effect (Delete j f) b) (contentAt b (j .0)) (j .0) (stateAt b (contentAt b (j .0))) vacant
-  unfolding effect
-  delete-copy-leaves j f o k =
-      let size = wiped-title-long (j .0) o (f .f1) in
-      rw (ap isFull k)
+      let i = here-row b (c .0) (its-row (CheckOut c j) b n) (n .here) in
+      let half = title-is b (j .0) o (titleHalf (f .cci) (f .«title_key») (c .0)) (length-titleHalf (f .cci) (f .«title_key») (c .0)) in
+      let unusable = of-free _ _ (n .free) .rule-unusable in
       record {
-        row = refl;
-        place = place-title b (o .titles-long) (o .rules-long) (j .0) (o .entry) _ size ∙ wiped-copy-place _ _ (f .f1) k;
-        rows-else = λ d ne. refl;
-        places-else = place-title-else b (o .titles-long) (o .rules-long) (j .0) (o .entry) _ size;
+        row = permits-become b (c .0) (oneLess (f .permits)) _ _ i (less-most (f .permits) (i .in-ranges .permits));
+        copy = kind-is half refl (kind-copy (f .cci) (f .«title_key») (c .0) (n .content .from) (n .content .to) (omega (arith, i .in-ranges .cci)) (i .in-ranges .kind) _ unusable);
+        id = ap idOf half ∙ written-id (title-written (f .cci) (f .«title_key») (c .0)) (omega (arith, n .content .to));
+        cci = ap cciOf half ∙ title-cci (f .cci) (f .«title_key») (c .0) (omega (arith, i .in-ranges .cci));
+        title-key = ap keyOf half ∙ written-key (title-written (f .cci) (f .«title_key») (c .0)) (row-keys b (c .0) are-bytes i .0);
+        title-half = half;
+        rules = refl;
+      }
+  leaves (CheckIn j f1) n =
+      let o = on-card (CheckIn j f1) b n in
+      let c = contentAt b (j .0) in
+      let i = here-row b c (its-row (CheckIn j f1) b n) (n .here) in
+      record {
+        row = permits-become b c (oneMore (rowFacts b c .permits)) _ _ i (more-most (rowFacts b c .permits) (i .in-ranges .permits));
+        free = free-copy b (j .0) o f1 (n .copy);
+        title = title-wiped b (j .0) o f1 _ _ (n .title-key);
+        rules = refl;
+      }
+  leaves (MoveOut j h f) n =
+      let o = on-card (MoveOut j h f) b n in
+      let c = contentAt b (j .0) in
+      let g = afterMove (factsAt b (j .0)) in
+      let i = full-facts b (j .0) o are-bytes (n .full) in
+      let after = effect (MoveOut j h f) b in
+      let it = row-is (b .ledger) c (its-row (MoveOut j h f) b n) (hereRow g) (here-length g) (after .titles) (after .rules) (Here g)
+      (state-here g (in-range (after-move-ranges (factsAt b (j .0)) (i .in-ranges))) (i .title-key) (i .sti-key)) in
+      let same = ap hereFacts (it .reads) in
+      record {
+        row = record { reads = here-is after c g (it .reads); bytes-are = it .bytes-are ∙ ap hereRow (sym same) };
+        facts = recounted-move (factsAt b (j .0)) same;
+        free = free-full b (j .0) o f;
+        title = title-wiped b (j .0) o (f .f1) _ _ (n .title-key);
+        rule = rule-half-wiped b (j .0) o f _ _ (n .sti-key);
+      }
+  leaves (MoveIn c j h) n =
+      let o = on-card (MoveIn c j h) b n in
+      let i = here-row b (c .0) (its-row (MoveIn c j h) b n) (n .here) in
+      let f = afterMove (rowFacts b (c .0)) in
+      let keys = row-keys b (c .0) are-bytes i in
+      let it = full-entry _ (j .0) (c .0) f h (n .content) (after-move-ranges (rowFacts b (c .0)) (i .in-ranges)) (keys .0) (keys .1)
+      (title-is b (j .0) o _ (length-titleHalf (f .cci) (f .«title_key») (c .0))) (rule-is b (j .0) o _ (length-ruleHalf f h (c .0))) in
+      record {
+        row = row-is (b .ledger) (c .0) (i .is-row) (plainRow 2) (plain-length 2) _ _ Away state-plain-away;
+        entry = subst (λ (x : Facts). FullEntry (effect (MoveIn c j h) b) (j .0) (c .0) x h) (sym (it .facts)) it;
+        facts = recounted-move (rowFacts b (c .0)) (it .facts);
+      }
+  leaves (Delete j f) n =
+      let o = on-card (Delete j f) b n in
+      let c = contentAt b (j .0) in
+      record {
+        of-copy = λ k.
+            rw (ap isFull k)
+            record { free = free-copy b (j .0) o (f .f1) k; title = title-wiped b (j .0) o (f .f1) _ _ (n .title-key); ledger = refl; rules = refl };
+        of-full = λ k.
+            elim (n .deletable) [
+              | a-copy copy ↦ let z : _≡_ {A = ℕ} 0 1 = cc in absurd (omega arith)
+              | a-holder full away key ↦
+                  rw (ap isFull k)
+                  record {
+                    row = row-is (b .ledger) c (row-in b c Away refl (n .heads .ledger) away) (plainRow 3) (plain-length 3) _ _ Gone state-plain-gone;
+                    free = free-full b (j .0) o f;
+                    title = title-wiped b (j .0) o (f .f1) _ _ (n .title-key);
+                    rule = rule-half-wiped b (j .0) o f _ _ key;
+                  }
+            ];
       }
 
-  pub delete-holder-leaves : (j : EntryNumber) (f : Fillers) → OnCard b (j .0) → kindAt b (j .0) ≡ Full → stateAt b (contentAt b (j .0)) ≡ Away
-      → Leaves b (effect (Delete j f) b) (contentAt b (j .0)) (j .0) Gone vacant
-  unfolding effect
-  delete-holder-leaves j f o k e =
-      let is = away-row b (contentAt b (j .0)) (o .head) e in
-      rw (ap isFull k)
-      (row-and-halves _ _ _ is o (plain-length 3) (wiped-title-long (j .0) o (f .f1)) (wiped-rule-long (j .0) o f) state-plain-gone (wiped-full-place _ _ f (rule-long (j .0) o)))
+-- WORK IS DONE
+pub work-is-done : WorkIsDone
+work-is-done k b =
+    record {
+      done = done-where k b;
+      only-done = needs-met k b;
+      leaves = λ are-bytes n. subst (Left k b) (sym (carried-out k b (done-where k b n))) (leaves b are-bytes k n);
+      untouched = untouched k b;
+    }
+
+-- the card's tables are nothing to a register
+pub register-by-ledger : RegisterByLedger
+unfolding perform refusal conditions effect
+register-by-ledger c f ledger titles rules titles′ rules′ = (refl, either-way (eqb (refusal (Register c f) (lent ledger titles rules)) 0))
+  where
+    either-way : (x : Bool)
+        → (cond x (withRow (c .0) (hereRow f) (lent ledger titles rules)) (lent ledger titles rules)) .ledger
+        ≡ (cond x (withRow (c .0) (hereRow f) (lent ledger titles′ rules′)) (lent ledger titles′ rules′)) .ledger
+    either-way true = refl
+    either-way false = refl

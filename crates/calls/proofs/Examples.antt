@@ -9,38 +9,31 @@ use native.Mathlib.Omega.{arith}
 use native.Mathlib.Decide.{ℕ-discrete}
 use lib.Dec.{leb, eqb}
 use lib.ListN.{length}
-use borrow.Author.Tests.{eq-eqb, eqb-true}
+use borrow.Author.Tests.{eq-eqb}
 use Rattle.formats.specs.Field.{number, bytesOf}
 use Rattle.formats.specs.Half.{halfBytes, flagOf, usableOf, idOf}
 use Rattle.formats.specs.Title.{cciOf, titleHalf}
 use Rattle.formats.specs.Entry.{kindOf}
 use Rattle.formats.specs.Head.{rulesPass, rulesApplication, ledgerApplication}
 use Rattle.requests.specs.Number.{groupsIn, groups, readFrom, readNumber}
-use Rattle.requests.specs.Request.{kindOf as callOf, numbers, written, readRequest, readArguments, schema, requestOf}
-use Rattle.formats.specs.declared.facts.Facts.{Facts}
-use Rattle.formats.specs.declared.facts.ContentId.{ContentId}
+use Rattle.requests.specs.Request.{kindOf as callOf, numbers as numbersIn, written, readRequest, readArguments, schema, requestOf}
 use Rattle.formats.specs.declared.facts.EntryNumber.{EntryNumber}
-use Rattle.formats.specs.declared.facts.Fillers.{Fillers}
-use Rattle.formats.specs.declared.row.RowState.{RowState}
-use Rattle.formats.specs.declared.row.RowState.the-variants.{Here}
 use Rattle.formats.specs.declared.entry.EntryKind.the-variants.{Torn}
 use Rattle.requests.specs.declared.request.Request.{Request}
 use Rattle.requests.specs.declared.request.Request.the-variants.{Register, Record, CheckOut, CheckIn, MoveOut, MoveIn, Delete}
-use Rattle.formats.proofs.Tests.{both, and-false, refuted, either}
+use Rattle.formats.proofs.Tests.{both, and-false, refuted}
 use Rattle.formats.proofs.entry.Laws.{kind-copy, torn-cci, torn-ids}
 use Rattle.formats.proofs.head.Laws.{table-head, rules-head, rules-pass}
-use Rattle.formats.proofs.facts.Laws.{in-range, permitting}
 use Rattle.calls.specs.Count.{oneLess, oneMore}
-use Rattle.calls.specs.Buffers.{Buffers, stateAt, rowFacts, hereFacts, kindAt, contentAt, factsAt, isCopy, isHere}
+use Rattle.calls.specs.Buffers.{Buffers, rowFacts, contentAt, isCopy, isHere}
 use Rattle.calls.specs.Refusal.{first}
-use Rattle.calls.specs.Conditions.{argumentConditions, allHeadConditions, mayNotMove, stateConditions, conditions}
-use Rattle.calls.specs.Effect.{afterMove}
-use Rattle.calls.specs.Perform.{perform, AreBytes}
-use Rattle.calls.specs.Examples.{E1, E2, E3, E4, E5, RightsInRow, PermitsInRow, RightsInEntry, Moves, E6, E7, E8, ChecksIn, PassesUntil15, E9, E10, TenExamples}
-use Rattle.calls.proofs.Refusals.{alone, past, of-first, meets, answer-first, refused-by, carried-out, holds-not, fails-so}
-use Rattle.calls.proofs.Views.{view, full-entry}
-use Rattle.calls.proofs.Passed.{passed}
-use Rattle.calls.proofs.Done.{check-in-leaves, move-out-leaves, move-in-leaves}
+use Rattle.calls.specs.Conditions.{argumentConditions, allHeadConditions, stateConditions, conditions}
+use Rattle.calls.specs.Perform.{perform}
+use Rattle.calls.specs.Examples.{E1, E2, E3, E4, E5, Moves, E6, E7, E8, ChecksIn, NeedsUntil15, E9, E10, TenExamples}
+use Rattle.calls.proofs.Refusals.{past, of-first, to-none, meets, answer-first, refused-by, holds-not, fails-so}
+use Rattle.calls.proofs.Limits.{limits-agree, argument-numbers}
+use Rattle.calls.proofs.Passed.{numbers, rules-right}
+use Rattle.calls.proofs.Done.{work-is-done}
 
 example-1 : E1
 unfolding groups groupsIn readNumber readFrom
@@ -55,7 +48,7 @@ unfolding groups groupsIn readNumber readFrom
 example-3 = ((refl, refl), λ rest. refl)
 
 example-4 : E4
-unfolding groups groupsIn readNumber readFrom numbers written readRequest readArguments schema requestOf
+unfolding groups groupsIn readNumber readFrom numbersIn written readRequest readArguments schema requestOf
 example-4 = (refl, refl)
 
 example-5 : E5
@@ -69,13 +62,6 @@ example-5 =
       id-read = refl;
     }
 
--- row c is here with these facts
-rights-in : (b : Buffers) (c : ℕ) (f : Facts) {n : ℕ} → stateAt b c ≡ Here f → f .rights ≡ n → RightsInRow b c n
-rights-in b c f is e = record { here = ap isHere is; are = ap (λ (s : RowState). hereFacts s .rights) is ∙ e }
-
-permits-in : (b : Buffers) (c : ℕ) (f : Facts) {n : ℕ} → stateAt b c ≡ Here f → f .permits ≡ n → PermitsInRow b c n
-permits-in b c f is e = record { here = ap isHere is; are = ap (λ (s : RowState). hereFacts s .permits) is ∙ e }
-
 -- a test of which only the failing is a condition
 fails : (x : Bool) → (not x || false) ≡ true → x ≡ false
 fails true e = absurd (true≢false (sym e))
@@ -88,69 +74,23 @@ sameApplication b = eqb (rulesApplication (b .rules)) (ledgerApplication (b .led
 abbrev rulesOk : Buffers → Bool
 rulesOk b = rulesPass (b .rules) && sameApplication b
 
-module _ (b : Buffers) (j : EntryNumber) (h : ℕ) (f : Fillers) where
-  -- the facts that are moved out
-  abbrev entry-facts : Facts
-  entry-facts = factsAt b (j .0)
-
-  -- a move out is refused with 12 for its trigger or rights only
-  only-12-out : perform (MoveOut j h f) b .answer ≡ 12 → mayNotMove entry-facts ≡ true
-  unfolding conditions
-  only-12-out e =
-      alone (mayNotMove entry-facts) (refused-by (MoveOut j h f) b 12 (λ z. omega arith) e)
-
-  -- done, it leaves the row here with one right less
-  less-in-row : AreBytes b → perform (MoveOut j h f) b .answer ≡ 0
-      → RightsInRow (perform (MoveOut j h f) b .buffers) (contentAt b (j .0)) (oneLess (entry-facts .rights))
-  less-in-row are-bytes e =
-      rights-in (perform (MoveOut j h f) b .buffers) (contentAt b (j .0)) (afterMove entry-facts)
-      (ap (λ (x : Buffers). stateAt x (contentAt b (j .0))) (carried-out (MoveOut j h f) b e)
-      ∙ move-out-leaves b j h f are-bytes (passed (MoveOut j h f) b e) .row) refl
-
-module _ (b : Buffers) (c : ContentId) (j : EntryNumber) (h : ℕ) where
-  -- the facts that are moved in
-  abbrev row-facts : Facts
-  row-facts = rowFacts b (c .0)
-
-  -- a move in likewise
-  only-12-in : perform (MoveIn c j h) b .answer ≡ 12 → mayNotMove row-facts ≡ true
-  unfolding conditions
-  only-12-in e =
-      alone (mayNotMove row-facts) (refused-by (MoveIn c j h) b 12 (λ z. omega arith) e)
-
-  -- done, it leaves the entry full with one right less
-  less-in-entry : AreBytes b → perform (MoveIn c j h) b .answer ≡ 0
-      → RightsInEntry (perform (MoveIn c j h) b .buffers) (j .0) (c .0) (oneLess (row-facts .rights))
-  less-in-entry are-bytes e =
-      let after = perform (MoveIn c j h) b .buffers in
-      let (k, id, facts) = full-entry (kindAt after (j .0)) (contentAt after (j .0)) (factsAt after (j .0)) (c .0) (afterMove row-facts)
-      (ap (λ (x : Buffers). view x .places (j .0)) (carried-out (MoveIn c j h) b e) ∙ move-in-leaves b c j h are-bytes (passed (MoveIn c j h) b e) .place) in
-      record { full = k; id = id; are = ap (λ (x : Facts). x .rights) facts }
-
--- neither the trigger nor rights other than 0 forbid a move
-may : (f : Facts) → f .rights ≢ 0 → f .trigger ≢ 1 → mayNotMove f ≢ true
-may f some untriggered e =
-    elim (either (eqb (f .trigger) 1) (eqb (f .rights) 0) e) [ inl t ↦ untriggered (eqb-true (f .trigger) 1 t) | inr r ↦ some (eqb-true (f .rights) 0 r) ]
-
 -- rights of which one less is `after`
-moves : (before after : ℕ) → before ≢ 0 → oneLess before ≡ after → Moves before after
-moves before after some e =
+moves : (before after : ℕ) → oneLess before ≡ after → Moves before after
+moves before after e =
     record {
-      may-move-out = λ b j h f are untriggered refused.
-          may (factsAt b (j .0)) (λ none. some (sym are ∙ none)) untriggered (only-12-out b j h f refused);
-      moved-out = λ b j h f are-bytes are zero.
-          let row = less-in-row b j h f are-bytes zero in
-          record { here = row .here; are = row .are ∙ ap oneLess are ∙ e };
-      may-move-in = λ b c j h are untriggered refused.
-          may (rowFacts b (c .0)) (λ none. some (sym are ∙ none)) untriggered (only-12-in b c j h refused);
-      moved-in = λ b c j h are-bytes are zero.
-          let entry = less-in-entry b c j h are-bytes zero in
-          record { full = entry .full; id = entry .id; are = entry .are ∙ ap oneLess are ∙ e };
+      moved-out = λ b j h f are-bytes n are.
+          let w = work-is-done (MoveOut j h f) b in
+          let l = w .leaves are-bytes n in
+          (w .done n, record { here = l .row .reads; are = l .facts .rights-are ∙ ap oneLess are ∙ e });
+      moved-in = λ b c j h are-bytes n are.
+          let w = work-is-done (MoveIn c j h) b in
+          let l = w .leaves are-bytes n in
+          (w .done n, record { full = l .entry .full; id = l .entry .id; are = l .facts .rights-are ∙ ap oneLess are ∙ e });
     }
 
 example-6 : E6
 unfolding oneLess
-example-6 = (moves 15 15 (λ e. omega arith) refl, moves 14 13 (λ e. omega arith) refl, moves 1 0 (λ e. omega arith) refl)
+example-6 = (moves 15 15 refl, moves 14 13 refl, moves 1 0 refl)
 
 -- a call that is lent the card has no other condition 9
 only-9 : (k : Request) (b : Buffers) → callOf k ≢ 1 → meets 9 (conditions k b) ≡ true → rulesOk b ≡ false
@@ -186,7 +126,7 @@ example-7 =
           let wrong : rulesOk b ≡ false = ap (λ (x : Bool). x && sameApplication b) fails in
           answer-first k b
           ∙ ap first (card-heads k b lent)
-          ∙ past (argumentConditions k) (allHeadConditions b ++ stateConditions k b) (before .its-arguments)
+          ∙ past (argumentConditions k) (allHeadConditions b ++ stateConditions k b) (to-none (argumentConditions k) (argument-numbers k) (limits-agree k ∙ before .its-arguments))
           ∙ of-first 9 (allHeadConditions b ++ stateConditions k b) (inr (holds-not (before .ledger), inr (holds-not (before .titles), inl (fails-so wrong, refl))));
     }
 
@@ -206,46 +146,36 @@ example-8 = (
   λ t r t-yes r-yes x y. torn-by t r t-yes r-yes (omega arith) (λ e. omega arith),
 )
 
-module _ (b : Buffers) (j : EntryNumber) (f1 : ℕ) where
-  -- the title that is checked in
-  abbrev its : ℕ
-  its = contentAt b (j .0)
-
-  -- a check-in is refused with 15 at permits 14 only
-  only-15 : perform (CheckIn j f1) b .answer ≡ 15 → rowFacts b its .permits ≡ 14
-  unfolding conditions
-  only-15 e =
-      eqb-true (rowFacts b its .permits) 14
-      (alone (eqb (rowFacts b its .permits) 14) (refused-by (CheckIn j f1) b 15 (λ z. omega arith) e))
-
-  -- done, it leaves the row here with one permit more
-  one-more : perform (CheckIn j f1) b .answer ≡ 0 → PermitsInRow (perform (CheckIn j f1) b .buffers) its (oneMore (rowFacts b its .permits))
-  one-more e =
-      permits-in (perform (CheckIn j f1) b .buffers) its (permitting (rowFacts b its) (oneMore (rowFacts b its .permits)))
-      (ap (λ (x : Buffers). stateAt x its) (carried-out (CheckIn j f1) b e) ∙ check-in-leaves b j f1 (passed (CheckIn j f1) b e) .row) refl
-
-  -- at permits 14 it is refused
-  at-14 : PassesUntil15 b j f1 → rowFacts b its .permits ≡ 14 → perform (CheckIn j f1) b .answer ≡ 15
-  unfolding conditions
-  at-14 before e =
-      answer-first (CheckIn j f1) b
-      ∙ past (argumentConditions (CheckIn j f1)) (allHeadConditions b ++ stateConditions (CheckIn j f1) b) (before .its-arguments)
-      ∙ past (allHeadConditions b) (stateConditions (CheckIn j f1) b) (before .heads)
-      ∙ of-first 15 (stateConditions (CheckIn j f1) b) (inr (holds-not (ap isCopy (before .copy)), inr (holds-not (before .here), inl (eq-eqb (rowFacts b its .permits) 14 e, refl))))
-
 -- permits of which one more is `after`
-checks-in : (before after : ℕ) → before ≢ 14 → oneMore before ≡ after → ChecksIn before after
-checks-in before after other e =
-    record {
-      may-check-in = λ b j f1 are refused. other (sym are ∙ only-15 b j f1 refused);
-      checked-in = λ b j f1 are zero.
-          let row = one-more b j f1 zero in
-          record { here = row .here; are = row .are ∙ ap oneMore are ∙ e };
-    }
+checks-in : (before after : ℕ) → oneMore before ≡ after → ChecksIn before after
+checks-in before after e b j f1 are-bytes n are =
+    let w = work-is-done (CheckIn j f1) b in
+    let l = w .leaves are-bytes n in
+    (w .done n, record { here = l .row .here; are = l .row .facts .permits-are ∙ ap oneMore are ∙ e })
+
+-- at permits 14 it is refused
+at-14 : (b : Buffers) (j : EntryNumber) (f1 : ℕ) → NeedsUntil15 b (j .0) → rowFacts b (contentAt b (j .0)) .permits ≡ 14 → perform (CheckIn j f1) b .answer ≡ 15
+unfolding conditions
+at-14 b j f1 n e =
+    answer-first (CheckIn j f1) b
+    ∙ of-first 15 (conditions (CheckIn j f1) b)
+    (inr (
+      numbers (n .entry),
+      inr (
+        holds-not (n .heads .ledger),
+        inr (
+          holds-not (n .heads .titles),
+          inr (
+            rules-right b (n .heads),
+            inr (holds-not (ap isCopy (n .copy)), inr (holds-not (ap isHere (n .here)), inl (eq-eqb (rowFacts b (contentAt b (j .0)) .permits) 14 e, refl))),
+          ),
+        ),
+      ),
+    ))
 
 example-9 : E9
 unfolding oneMore
-example-9 = record { at-13 = checks-in 13 14 (λ e. omega arith) refl; at-14 = at-14; at-15 = checks-in 15 15 (λ e. omega arith) refl }
+example-9 = record { at-13 = checks-in 13 14 refl; at-14 = at-14; at-15 = checks-in 15 15 refl }
 
 example-10 : E10
 unfolding readNumber readFrom readRequest

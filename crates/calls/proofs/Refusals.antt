@@ -1,4 +1,4 @@
--- The laws of the first condition that holds, and demand 1 of every call.
+-- The laws of the first condition that holds, and demand 1: of whatever answers it, and of every call.
 -- Assumes nothing.
 use Prim.Native.Nat.{ℕ}
 use mathlib.Core.Path.{_≡_, refl, sym, ap, _∙_}
@@ -12,10 +12,10 @@ use Rattle.requests.specs.declared.request.Request.{Request}
 use Rattle.requests.specs.declared.request.Request.the-variants.{Register, Record, CheckOut, CheckIn, MoveOut, MoveIn, Delete}
 use Rattle.formats.proofs.Tests.{split, one-holds, refuted}
 use Rattle.calls.specs.Buffers.{Buffers}
-use Rattle.calls.specs.Refusal.{Condition, _when_, _unless_, first, numbersOf, FirstToHold, NoneHolds}
+use Rattle.calls.specs.Refusal.{Condition, _when_, _unless_, first, numbersOf, FirstToHold, NoneHolds, RefusedFirst}
 use Rattle.calls.specs.Conditions.{conditions}
 use Rattle.calls.specs.Effect.{effect}
-use Rattle.calls.specs.Perform.{refusal, perform, checked, RefusedFirst}
+use Rattle.calls.specs.Perform.{refusal, perform, checked}
 
 -- no condition has the number 0, which is the answer of a call that is done
 abbrev pub refusing : List Condition → Bool
@@ -170,6 +170,20 @@ pub alone : (x : Bool) → (x || false) ≡ true → x ≡ true
 alone true e = refl
 alone false e = e
 
+-- DEMAND 1 of whatever answers the first of its conditions, and leaves what it found unless that is 0
+pub refused-first : {A : Type 0} {numbers : List ℕ} (cs : List Condition) {answer : ℕ} {before after made : A} → numbersOf cs ≡ numbers → refusing cs ≡ true
+    → answer ≡ first cs → after ≡ cond (eqb answer 0) made before → RefusedFirst A numbers cs answer before after made
+refused-first cs {answer} {before} {after} {made} numbers refuses e left =
+    record {
+      checks = numbers;
+      refused = λ n some h. e ∙ of-first n cs h;
+      only-refused = λ n some d. to-first n cs some (sym e ∙ d);
+      unchanged = λ some. left ∙ ap (λ (x : Bool). cond x made before) (ne-eqb answer 0 some);
+      accepted = λ h. e ∙ of-none cs h;
+      only-accepted = λ zero. to-none cs refuses (sym e ∙ zero);
+      carried-out = λ zero. left ∙ ap (λ (x : Bool). cond x made before) (eq-eqb answer 0 zero);
+    }
+
 -- THE CALLS
 
 -- they check these numbers
@@ -204,29 +218,19 @@ module _ (k : Request) (b : Buffers) where
   pub refused-by : (n : ℕ) → n ≢ 0 → perform k b .answer ≡ n → meets n (conditions k b) ≡ true
   refused-by n some e = only-met n (conditions k b) some (sym answer-first ∙ e)
 
+  -- Demand 1: a call that meets a condition gets the number of the first one and changes nothing; every other call is done
+  pub call-refused-first : RefusedFirst Buffers (checked k) (conditions k b) (perform k b .answer) b (perform k b .buffers) (effect k b)
+  unfolding perform
+  call-refused-first = refused-first (conditions k b) (numbers-checked k b) (none-is-0 k b) answer-first refl
+
   -- refused, it changes no byte
   pub unchanged : perform k b .answer ≢ 0 → perform k b .buffers ≡ b
-  unfolding perform
-  unchanged some = simp (ne-eqb (refusal k b) 0 some)
+  unchanged = call-refused-first .unchanged
 
   -- done, it leaves its effect
   pub carried-out : perform k b .answer ≡ 0 → perform k b .buffers ≡ effect k b
-  unfolding perform
-  carried-out zero = simp (eq-eqb (refusal k b) 0 zero)
+  carried-out = call-refused-first .carried-out
 
   -- done, none of its conditions holds
   pub none-holds : perform k b .answer ≡ 0 → NoneHolds (conditions k b)
-  none-holds zero = to-none (conditions k b) (none-is-0 k b) (sym answer-first ∙ zero)
-
--- Demand 1: a call that meets a condition gets the number of the first one and changes nothing; every other call is done.
-pub refused-first : (k : Request) (b : Buffers) → RefusedFirst k b
-refused-first k b =
-    record {
-      checks = numbers-checked k b;
-      refused = λ n some h. answer-first k b ∙ of-first n (conditions k b) h;
-      only-refused = λ n some e. to-first n (conditions k b) some (sym (answer-first k b) ∙ e);
-      unchanged = unchanged k b;
-      accepted = λ h. answer-first k b ∙ of-none (conditions k b) h;
-      only-accepted = none-holds k b;
-      carried-out = carried-out k b;
-    }
+  none-holds = call-refused-first .only-accepted

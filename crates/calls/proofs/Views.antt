@@ -1,37 +1,32 @@
--- What stands in the buffers after a row, a title half or a rule half is written: rows as states, entries as places.
+-- Rows as states and entries as places, and what they are after one of them was written.
 -- Assumes nothing.
-use Prim.Native.Nat.{ℕ, _+_, _*_, _≤_, _<_, _^_}
-use mathlib.Core.Path.{_≡_, refl, sym, ap, _∙_}
+use Prim.Native.Nat.{ℕ, _+_, _*_, _≤_}
+use mathlib.Core.Path.{_≡_, refl, sym, ap, ap₂, _∙_}
 use mathlib.Core.Logic.{_≢_}
 use mathlib.Core.List.{List}
+use mathlib.Core.Option.{Option, some}
 use mathlib.Core.Bool.{Bool, true, false, cond, _&&_}
 use native.Mathlib.Omega.{arith}
 use lib.ListN.{length}
 use lib.Dec.{leb, eqb}
 use borrow.Author.Tests.{le-leb, leb-true}
 use Rattle.formats.specs.Part.{part, put}
-use Rattle.formats.specs.Half.{idOf, usableOf, wiped}
-use Rattle.formats.specs.Title.{titleHalf}
-use Rattle.formats.specs.Rule.{ruleHalf, wipedRule}
+use Rattle.formats.specs.Half.{idOf}
 use Rattle.formats.specs.Entry.{kindOf, entryFacts}
 use Rattle.formats.specs.Head.{rowsOf}
 use Rattle.formats.specs.Row.{stateOf}
 use Rattle.formats.specs.declared.facts.Facts.{Facts}
-use Rattle.formats.specs.declared.facts.Fillers.{Fillers}
 use Rattle.formats.specs.declared.entry.EntryKind.{EntryKind}
 use Rattle.formats.specs.declared.entry.EntryKind.the-variants.{Free, Copy, Full, Torn}
 use Rattle.formats.specs.declared.row.RowState.the-variants.{NoState}
 use Rattle.formats.proofs.Part.{part-length}
 use Rattle.formats.proofs.Tests.{split, both}
-use Rattle.formats.proofs.facts.Laws.{Ranges}
-use Rattle.formats.proofs.half.Laws.{written-id}
-use Rattle.formats.proofs.title.Laws.{title-written}
-use Rattle.formats.proofs.entry.Laws.{kind-copy, kind-full, entry-facts-back, copy-wiped, both-wiped}
 use Rattle.formats.proofs.head.Laws.{LedgerHead, rows-kept}
 use Rattle.calls.specs.History.{fullOf}
-use Rattle.calls.specs.Buffers.{kindAt, contentAt, factsAt, isCopy, isFull, one, total, copies, Buffers, rowAt, titleAt, ruleAt, stateIn, stateAt}
-use Rattle.calls.proofs.Slots.{slot-ends, slot-same, slot-else}
-use Rattle.calls.proofs.History.Totals.{Within, total-same}
+use Rattle.calls.specs.Buffers.{kindAt, contentAt, factsAt, isCopy, isFull, one, total, copies, Buffers, rowAt, titleAt, ruleAt, stateIn, stateAt, Within}
+use Rattle.calls.specs.Untouched.{SlotsKept}
+use Rattle.calls.proofs.Slots.{slot-ends, slot-same, slots-kept}
+use Rattle.calls.proofs.History.Totals.{total-same}
 use Rattle.calls.proofs.History.Titles.{Place, vacant, copy, full, copyIn, fullIn}
 use Rattle.calls.proofs.History.Step.{State, copiesIn, fullsIn}
 
@@ -52,11 +47,11 @@ module _ (ledger : List ℕ) (c : ℕ) where
   -- a row in a state is one of the ledger's
   pub in-a-state : LedgerHead ledger → stateIn ledger c ≢ NoState → IsRow ledger c
   unfolding stateIn
-  in-a-state head some = by (leb 1 c && leb c (rowsOf ledger)) refl
+  in-a-state head in-one = by (leb 1 c && leb c (rowsOf ledger)) refl
     where
       by : (x : Bool) → (leb 1 c && leb c (rowsOf ledger)) ≡ x → IsRow ledger c
       by true e = let (p, q) = split _ _ e in record { head = head; from = leb-true _ _ p; to = leb-true _ _ q }
-      by false e = absurd (some (ap (λ (x : Bool). cond x (stateOf (rowAt ledger c)) NoState) e))
+      by false e = absurd (in-one (ap (λ (x : Bool). cond x (stateOf (rowAt ledger c)) NoState) e))
 
   module _ (is : IsRow ledger c) where
     -- its number is 1 to 999
@@ -69,34 +64,30 @@ module _ (ledger : List ℕ) (c : ℕ) where
     pub row-length : length (rowAt ledger c) ≡ 24
     row-length = part-length (24 * c) 24 ledger row-inside
 
-    module _ (row : List ℕ) (size : length row ≡ 24) where
-      same-rows : rowsOf (put ledger (24 * c) row) ≡ rowsOf ledger
-      same-rows = rows-kept ledger row (24 * c) (omega (arith, row-inside)) (omega (arith, is .from))
+-- a ledger of which one row at most was written
+module _ {old new : List ℕ} {written : Option ℕ} (kept : SlotsKept 24 written old new) where
+  same-rows : rowsOf new ≡ rowsOf old
+  same-rows = rows-kept 24 old new (kept .same-length) (kept .head) (omega arith)
 
-      -- the row that was written
-      pub row-written : stateIn (put ledger (24 * c) row) c ≡ stateOf row
-      unfolding stateIn
-      row-written =
-          ap (λ (x : Bool). cond x (stateOf (rowAt (put ledger (24 * c) row) c)) NoState)
-          (both (le-leb 1 c (is .from)) (le-leb c (rowsOf (put ledger (24 * c) row)) (omega (arith, same-rows, is .to))))
-          ∙ ap stateOf (slot-same 24 ledger row c row-inside size)
+  -- each row reads as its bytes say
+  pub row-reads : {c : ℕ} → IsRow old c → stateIn new c ≡ stateOf (rowAt new c)
+  row-reads {c} is = state-of-row new c (is .from) (omega (arith, is .to, same-rows))
 
-      -- any other row
-      pub row-else : (d : ℕ) → d ≢ c → stateIn (put ledger (24 * c) row) d ≡ stateIn ledger d
-      unfolding stateIn
-      row-else d other = by (leb 1 d && leb d (rowsOf ledger)) refl
-        where
-          by : (x : Bool) → (leb 1 d && leb d (rowsOf ledger)) ≡ x → stateIn (put ledger (24 * c) row) d ≡ stateIn ledger d
-          by true e =
-              let (p, q) = split (leb 1 d) (leb d (rowsOf ledger)) e in
-              let inside = leb-true d (rowsOf ledger) q in
-              ap (λ (n : ℕ). cond (leb 1 d && leb d n) (stateOf (rowAt (put ledger (24 * c) row) d)) NoState) same-rows
-              ∙ ap (λ (r : List ℕ). cond (leb 1 d && leb d (rowsOf ledger)) (stateOf r) NoState)
-              (slot-else 24 ledger row c row-inside size d (omega (arith, is .head .size)) other)
-          by false e =
-              ap (λ (n : ℕ). cond (leb 1 d && leb d n) (stateOf (rowAt (put ledger (24 * c) row) d)) NoState) same-rows
-              ∙ ap (λ (x : Bool). cond x (stateOf (rowAt (put ledger (24 * c) row) d)) NoState) e
-              ∙ sym (ap (λ (x : Bool). cond x (stateOf (rowAt ledger d)) NoState) e)
+  -- and any other row as it did
+  pub row-else : LedgerHead old → (d : ℕ) → written ≢ some d → stateIn new d ≡ stateIn old d
+  unfolding stateIn
+  row-else head d other = by (leb 1 d && leb d (rowsOf old)) refl
+    where
+      count : stateIn new d ≡ cond (leb 1 d && leb d (rowsOf old)) (stateOf (rowAt new d)) NoState
+      count = ap (λ (n : ℕ). cond (leb 1 d && leb d n) (stateOf (rowAt new d)) NoState) same-rows
+
+      by : (x : Bool) → (leb 1 d && leb d (rowsOf old)) ≡ x → stateIn new d ≡ stateIn old d
+      by true e =
+          let (p, q) = split (leb 1 d) (leb d (rowsOf old)) e in
+          let inside = leb-true d (rowsOf old) q in
+          count ∙ ap (λ (r : List ℕ). cond (leb 1 d && leb d (rowsOf old)) (stateOf r) NoState) (kept .others d (omega (arith, head .size)) other)
+      by false e =
+          count ∙ ap (λ (x : Bool). cond x (stateOf (rowAt new d)) NoState) e ∙ sym (ap (λ (x : Bool). cond x (stateOf (rowAt old d)) NoState) e)
 
 -- ENTRIES
 
@@ -154,59 +145,27 @@ module _ (width : ℕ) (table : List ℕ) (long : length table ≡ width * 1000)
   pub entry-length : (j : ℕ) → Within 999 j → length (part table (width * j) width) ≡ width
   entry-length j in-table = part-length (width * j) width table (entry-inside j in-table)
 
-  module _ (p : List ℕ) (size : length p ≡ width) (j : ℕ) (in-table : Within 999 j) where
-    -- the one that was written
-    pub entry-same : part (put table (width * j) p) (width * j) width ≡ p
-    entry-same = slot-same width table p j (entry-inside j in-table) size
+  -- the one that was written
+  pub entry-same : (p : List ℕ) → length p ≡ width → (j : ℕ) → Within 999 j → part (put table (width * j) p) (width * j) width ≡ p
+  entry-same p size j in-table = slot-same width table p j (entry-inside j in-table) size
 
-    -- any other
-    pub entry-else : (i : ℕ) → Within 999 i → i ≢ j → part (put table (width * j) p) (width * i) width ≡ part table (width * i) width
-    entry-else i other-in = slot-else width table p j (entry-inside j in-table) size i (entry-inside i other-in)
+  -- and that all others are as they were
+  pub entries-kept : (p : List ℕ) → length p ≡ width → (j : ℕ) → Within 999 j → SlotsKept width (some j) table (put table (width * j) p)
+  entries-kept p size j in-table = slots-kept width table p j (entry-inside j in-table) size (in-table .from)
 
--- the place that a written title half makes beside a rule half that is not usable
-module _ (c : ℕ) (is : Within 999 c) where
-  pub copy-place : (cci key : ℕ) (r : List ℕ) → cci < 4 → cci ≢ 1 → usableOf r ≡ false → placeOf (titleHalf cci key c) r ≡ copy c
-  copy-place cci key r small not-one unusable =
-      let t = titleHalf cci key c in
-      ap (λ (k : EntryKind). placeBy k (idOf t) (entryFacts t r)) (kind-copy cci key c (is .from) (is .to) small not-one r unusable)
-      ∙ ap copy (written-id (title-written cci key c) (omega (arith, is .to)))
+-- a card of which one entry at most was written: any other has the halves that it had
+module _ (b after : Buffers) {title rule : Option ℕ} (titles : SlotsKept 16 title (b .titles) (after .titles)) (rules : SlotsKept 32 rule (b .rules) (after .rules))
+    (titles-long : length (b .titles) ≡ 16000) (rules-long : length (b .rules) ≡ 32000) (i : ℕ) (in-table : Within 999 i) (other-title : title ≢ some i)
+    (other-rule : rule ≢ some i) where
+  same-title : titleAt (after .titles) i ≡ titleAt (b .titles) i
+  same-title = titles .others i (entry-inside 16 (b .titles) titles-long i in-table) other-title
 
-  -- and the one that both written halves make
-  pub full-place : (f : Facts) (h : ℕ) → Ranges f → f .«title_key» < 2 ^ 56 → f .«sti_key» < 2 ^ 56
-      → placeOf (titleHalf (f .cci) (f .«title_key») c) (ruleHalf f h c) ≡ full c f
-  full-place f h ok title-key sti-key =
-      let t = titleHalf (f .cci) (f .«title_key») c in
-      let r = ruleHalf f h c in
-      ap (λ (k : EntryKind). placeBy k (idOf t) (entryFacts t r)) (kind-full (f .cci) (f .«title_key») c (is .from) (is .to) (omega (arith, ok .cci)) (ok .kind) f h)
-      ∙ ap (λ (x : ℕ). full x (entryFacts t r)) (written-id (title-written (f .cci) (f .«title_key») c) (omega (arith, is .to)))
-      ∙ ap (full c) (entry-facts-back f h c ok title-key sti-key)
+  same-rule : ruleAt (after .rules) i ≡ ruleAt (b .rules) i
+  same-rule = rules .others i (entry-inside 32 (b .rules) rules-long i in-table) other-rule
 
--- wiped entries have nothing
-module _ (t r : List ℕ) where
-  pub wiped-copy-place : (f1 : ℕ) → kindOf t r ≡ Copy → placeOf (wiped t f1) r ≡ vacant
-  wiped-copy-place f1 is = ap (λ (k : EntryKind). placeBy k (idOf (wiped t f1)) (entryFacts (wiped t f1) r)) (copy-wiped t r f1 is)
+  -- so it is of the kind that it was, and the place that it was
+  pub kind-else : kindAt after i ≡ kindAt b i
+  kind-else = ap₂ kindOf same-title same-rule
 
-  pub wiped-full-place : (f : Fillers) → length r ≡ 32 → placeOf (wiped t (f .f1)) (wipedRule r f) ≡ vacant
-  wiped-full-place f size =
-      ap (λ (k : EntryKind). placeBy k (idOf (wiped t (f .f1))) (entryFacts (wiped t (f .f1)) (wipedRule r f))) (both-wiped t r (f .f1) f size)
-
--- the places after an entry's title half, or both its halves, were written
-module _ (b : Buffers) (titles-long : length (b .titles) ≡ 16000) (rules-long : length (b .rules) ≡ 32000) (j : ℕ) (in-table : Within 999 j)
-    (t : List ℕ) (t-size : length t ≡ 16) where
-  pub place-title : placeOf (titleAt (put (b .titles) (16 * j) t) j) (ruleAt (b .rules) j) ≡ placeOf t (ruleAt (b .rules) j)
-  place-title = ap (λ (x : List ℕ). placeOf x (ruleAt (b .rules) j)) (entry-same 16 (b .titles) titles-long t t-size j in-table)
-
-  pub place-title-else : (i : ℕ) → Within 999 i → i ≢ j → placeOf (titleAt (put (b .titles) (16 * j) t) i) (ruleAt (b .rules) i) ≡ view b .places i
-  place-title-else i other-in other =
-      ap (λ (x : List ℕ). placeOf x (ruleAt (b .rules) i)) (entry-else 16 (b .titles) titles-long t t-size j in-table i other-in other)
-
-  module _ (r : List ℕ) (r-size : length r ≡ 32) where
-    pub place-both : placeOf (titleAt (put (b .titles) (16 * j) t) j) (ruleAt (put (b .rules) (32 * j) r) j) ≡ placeOf t r
-    place-both =
-        ap (λ (x : List ℕ). placeOf x (ruleAt (put (b .rules) (32 * j) r) j)) (entry-same 16 (b .titles) titles-long t t-size j in-table)
-        ∙ ap (placeOf t) (entry-same 32 (b .rules) rules-long r r-size j in-table)
-
-    pub place-both-else : (i : ℕ) → Within 999 i → i ≢ j → placeOf (titleAt (put (b .titles) (16 * j) t) i) (ruleAt (put (b .rules) (32 * j) r) i) ≡ view b .places i
-    place-both-else i other-in other =
-        ap (placeOf (titleAt (put (b .titles) (16 * j) t) i)) (entry-else 32 (b .rules) rules-long r r-size j in-table i other-in other)
-        ∙ place-title-else i other-in other
+  pub place-else : view after .places i ≡ view b .places i
+  place-else = ap₂ placeOf same-title same-rule

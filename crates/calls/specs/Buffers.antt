@@ -1,10 +1,11 @@
 -- The three buffers that the calls work on, and what stands in them.
-use Prim.Native.Nat.{ℕ, zero, suc, _+_, _*_}
+use Prim.Native.Nat.{ℕ, zero, suc, _+_, _*_, _≤_}
 use mathlib.Core.List.{List}
 use mathlib.Core.Bool.{Bool, true, false, _&&_, cond}
 use lib.Dec.{leb, eqb}
 use Rattle.formats.specs.Part.{part, put}
-use Rattle.formats.specs.Half.{idOf}
+use Rattle.formats.specs.Half.{keyOf, idOf}
+use Rattle.formats.specs.Rule.{hashOf}
 use Rattle.formats.specs.Entry.{kindOf, entryFacts}
 use Rattle.formats.specs.Head.{rowsOf, freshLedger, freshTitles, freshRules}
 use Rattle.formats.specs.Row.{stateOf}
@@ -67,6 +68,16 @@ contentAt b j = idOf (titleAt (b .titles) j)
 abbrev pub factsAt : Buffers → ℕ → Facts
 factsAt b j = entryFacts (titleAt (b .titles) j) (ruleAt (b .rules) j)
 
+-- the keys in its title half and in its rule half, and its C_HASH
+abbrev pub titleKey : Buffers → ℕ → ℕ
+titleKey b j = keyOf (titleAt (b .titles) j)
+
+abbrev pub stiKey : Buffers → ℕ → ℕ
+stiKey b j = keyOf (ruleAt (b .rules) j)
+
+abbrev pub hashAt : Buffers → ℕ → ℕ
+hashAt b j = hashOf (ruleAt (b .rules) j)
+
 -- the kinds and states that calls need
 abbrev pub isFree : EntryKind → Bool
 isFree Free = true
@@ -106,6 +117,11 @@ isAway (Here f) = false
 isAway Away = true
 isAway Gone = false
 isAway NoState = false
+
+-- p is one of the places 1 to n
+pub record Within (n p : ℕ) : Type 0 where
+  pub from : 1 ≤ p
+  pub to : p ≤ n
 
 -- 1 where a test holds, else 0
 abbrev pub one : Bool → ℕ

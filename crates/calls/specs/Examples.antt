@@ -6,7 +6,7 @@ use mathlib.Core.List.{List, [], _∷_}
 use mathlib.Core.Bool.{true, false}
 use lib.ListN.{length, getD}
 use Rattle.requests.specs.Number.{groups, readNumber}
-use Rattle.requests.specs.Request.{kindOf as callOf, written, readRequest}
+use Rattle.requests.specs.Request.{kindOf as callOf, limitOf, written, readRequest}
 use Rattle.formats.specs.Half.{keyOf, flagOf, idOf, usableOf}
 use Rattle.formats.specs.Title.{cciOf, titleHalf}
 use Rattle.formats.specs.Entry.{kindOf}
@@ -19,10 +19,10 @@ use Rattle.requests.specs.declared.request.Request.{Request}
 use Rattle.requests.specs.declared.request.Request.the-variants.{CheckOut, CheckIn, MoveOut, MoveIn}
 use Rattle.requests.specs.declared.request.RequestRead.the-variants.{Read, Refused}
 use Rattle.formats.specs.declared.entry.EntryKind.the-variants.{Copy, Full, Torn}
-use Rattle.calls.specs.Buffers.{Buffers, stateAt, rowFacts, kindAt, contentAt, factsAt, isHere}
-use Rattle.calls.specs.Refusal.{NoneHolds}
-use Rattle.calls.specs.Conditions.{argumentConditions, allHeadConditions}
+use Rattle.formats.specs.declared.row.RowState.the-variants.{Here}
+use Rattle.calls.specs.Buffers.{Buffers, stateAt, rowFacts, kindAt, contentAt, factsAt, Within}
 use Rattle.calls.specs.Perform.{perform, AreBytes}
+use Rattle.calls.specs.Needs.{HeadsPass, Needs}
 
 -- a number and its bytes, as it is written and as it is read
 abbrev pub NumberBytes : ℕ → List ℕ → Type 0
@@ -72,12 +72,12 @@ E5 =
 
 -- row c is here with these rights
 pub record RightsInRow (b : Buffers) (c rights : ℕ) : Type 0 where
-  pub here : isHere (stateAt b c) ≡ true
+  pub here : stateAt b c ≡ Here (rowFacts b c)
   pub are : rowFacts b c .rights ≡ rights
 
 -- row c is here with these permits
 pub record PermitsInRow (b : Buffers) (c permits : ℕ) : Type 0 where
-  pub here : isHere (stateAt b c) ≡ true
+  pub here : stateAt b c ≡ Here (rowFacts b c)
   pub are : rowFacts b c .permits ≡ permits
 
 -- entry j is full with ID c and these rights
@@ -86,17 +86,13 @@ pub record RightsInEntry (b : Buffers) (j c rights : ℕ) : Type 0 where
   pub id : contentAt b j ≡ c
   pub are : factsAt b j .rights ≡ rights
 
--- a move of rights `before` is not refused for them, and done it leaves `after`: those of the row on a move out, those of
--- the entry on a move in
+-- a move of rights `before`, where all else that it needs is there, is done and leaves `after`: in the row on a move out, in the
+-- entry on a move in
 pub record Moves (before after : ℕ) : Type 0 where
-  pub may-move-out : (b : Buffers) (j : EntryNumber) (h : ℕ) (f : Fillers) → factsAt b (j .0) .rights ≡ before
-      → factsAt b (j .0) .trigger ≢ 1 → perform (MoveOut j h f) b .answer ≢ 12
-  pub moved-out : (b : Buffers) (j : EntryNumber) (h : ℕ) (f : Fillers) → AreBytes b → factsAt b (j .0) .rights ≡ before
-      → perform (MoveOut j h f) b .answer ≡ 0 → RightsInRow (perform (MoveOut j h f) b .buffers) (contentAt b (j .0)) after
-  pub may-move-in : (b : Buffers) (c : ContentId) (j : EntryNumber) (h : ℕ) → rowFacts b (c .0) .rights ≡ before
-      → rowFacts b (c .0) .trigger ≢ 1 → perform (MoveIn c j h) b .answer ≢ 12
-  pub moved-in : (b : Buffers) (c : ContentId) (j : EntryNumber) (h : ℕ) → AreBytes b → rowFacts b (c .0) .rights ≡ before
-      → perform (MoveIn c j h) b .answer ≡ 0 → RightsInEntry (perform (MoveIn c j h) b .buffers) (j .0) (c .0) after
+  pub moved-out : (b : Buffers) (j : EntryNumber) (h : ℕ) (f : Fillers) → AreBytes b → Needs (MoveOut j h f) b → factsAt b (j .0) .rights ≡ before
+      → (perform (MoveOut j h f) b .answer ≡ 0) × RightsInRow (perform (MoveOut j h f) b .buffers) (contentAt b (j .0)) after
+  pub moved-in : (b : Buffers) (c : ContentId) (j : EntryNumber) (h : ℕ) → AreBytes b → Needs (MoveIn c j h) b → rowFacts b (c .0) .rights ≡ before
+      → (perform (MoveIn c j h) b .answer ≡ 0) × RightsInEntry (perform (MoveIn c j h) b .buffers) (j .0) (c .0) after
 
 -- E6: rights 15 to 15, 14 to 13, 1 to 0 on a move
 abbrev pub E6 : Type 0
@@ -107,9 +103,9 @@ pub record PassesButVersion (b : Buffers) : Type 0 where
   pub table : tablePasses 0x4D31 32000 32 0x02 (b .rules) ≡ true
   pub application : rulesApplication (b .rules) ≡ ledgerApplication (b .ledger)
 
--- the checks of a call before that of the rule table pass
+-- the checks of a call before that of the rule table pass: its arguments are within their limits, and two heads are right
 pub record PassesUntil9 (k : Request) (b : Buffers) : Type 0 where
-  pub its-arguments : NoneHolds (argumentConditions k)
+  pub its-arguments : limitOf k ≡ 0
   pub ledger : ledgerPasses (b .ledger) ≡ true
   pub titles : titlesPass (b .titles) ≡ true
 
@@ -126,24 +122,23 @@ TornBy id other = (t r : List ℕ) → usableOf t ≡ true → usableOf r ≡ tr
 abbrev pub E8 : Type 0
 E8 = ((h : List ℕ) → flagOf h ≡ true → idOf h ≡ 0 → usableOf h ≡ false) × TornBy 4 5 × TornBy 5 4
 
--- a check-in at permits `before` is not refused for them, and done it leaves the row `after`
-pub record ChecksIn (before after : ℕ) : Type 0 where
-  pub may-check-in : (b : Buffers) (j : EntryNumber) (f1 : ℕ) → rowFacts b (contentAt b (j .0)) .permits ≡ before
-      → perform (CheckIn j f1) b .answer ≢ 15
-  pub checked-in : (b : Buffers) (j : EntryNumber) (f1 : ℕ) → rowFacts b (contentAt b (j .0)) .permits ≡ before
-      → perform (CheckIn j f1) b .answer ≡ 0 → PermitsInRow (perform (CheckIn j f1) b .buffers) (contentAt b (j .0)) after
+-- a check-in at permits `before`, where all else that it needs is there, is done and leaves the row `after`
+abbrev pub ChecksIn : ℕ → ℕ → Type 0
+ChecksIn before after =
+    (b : Buffers) (j : EntryNumber) (f1 : ℕ) → AreBytes b → Needs (CheckIn j f1) b → rowFacts b (contentAt b (j .0)) .permits ≡ before
+    → (perform (CheckIn j f1) b .answer ≡ 0) × PermitsInRow (perform (CheckIn j f1) b .buffers) (contentAt b (j .0)) after
 
--- the checks of a check-in before that of the permits pass
-pub record PassesUntil15 (b : Buffers) (j : EntryNumber) (f1 : ℕ) : Type 0 where
-  pub its-arguments : NoneHolds (argumentConditions (CheckIn j f1))
-  pub heads : NoneHolds (allHeadConditions b)
-  pub copy : kindAt b (j .0) ≡ Copy
-  pub here : isHere (stateAt b (contentAt b (j .0))) ≡ true
+-- what a check-in needs before its row's permits are looked at
+pub record NeedsUntil15 (b : Buffers) (j : ℕ) : Type 0 where
+  pub entry : Within 999 j
+  pub heads : HeadsPass b
+  pub copy : kindAt b j ≡ Copy
+  pub here : stateAt b (contentAt b j) ≡ Here (rowFacts b (contentAt b j))
 
 -- E9: check-in at permits 13 gives 14; at 14 it is refused with 15; at 15 they stay 15
 pub record E9 : Type 0 where
   pub at-13 : ChecksIn 13 14
-  pub at-14 : (b : Buffers) (j : EntryNumber) (f1 : ℕ) → PassesUntil15 b j f1 → rowFacts b (contentAt b (j .0)) .permits ≡ 14
+  pub at-14 : (b : Buffers) (j : EntryNumber) (f1 : ℕ) → NeedsUntil15 b (j .0) → rowFacts b (contentAt b (j .0)) .permits ≡ 14
       → perform (CheckIn j f1) b .answer ≡ 15
   pub at-15 : ChecksIn 15 15
 

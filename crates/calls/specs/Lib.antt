@@ -6,5 +6,7 @@ pub mod Effect
 pub mod Perform
 pub mod History
 pub mod Examples
-pub mod Guards
-pub mod Carried
+pub mod SampleRun
+pub mod Needs
+pub mod Untouched
+pub mod Work

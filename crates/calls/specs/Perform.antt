@@ -1,7 +1,6 @@
 -- A call on the buffers: its answer, and the buffers after it.
 use Prim.Native.Nat.{ℕ}
 use mathlib.Core.Path.{_≡_}
-use mathlib.Core.Logic.{_≢_}
 use mathlib.Core.List.{List, [], _∷_}
 use mathlib.Core.Bool.{cond}
 use lib.Dec.{eqb}
@@ -10,7 +9,7 @@ use Rattle.formats.specs.Bytes.{Bytes}
 use Rattle.requests.specs.declared.request.Request.{Request}
 use Rattle.requests.specs.declared.request.Request.the-variants.{Register, Record, CheckOut, CheckIn, MoveOut, MoveIn, Delete}
 use Rattle.calls.specs.Buffers.{Buffers}
-use Rattle.calls.specs.Refusal.{first, numbersOf, FirstToHold, NoneHolds}
+use Rattle.calls.specs.Refusal.{first, RefusedFirst}
 use Rattle.calls.specs.Conditions.{conditions}
 use Rattle.calls.specs.Effect.{effect}
 
@@ -27,6 +26,11 @@ refusal k b = first (conditions k b)
 unfoldable pub perform : Request → Buffers → Performed
 perform k b = record { answer = refusal k b; buffers = cond (eqb (refusal k b) 0) (effect k b) b }
 
+-- the answers of calls, each carried out on what the one before it left
+unfoldable pub answers : List Request → Buffers → List ℕ
+answers [] b = []
+answers (k ∷ ks) b = perform k b .answer ∷ answers ks (perform k b .buffers)
+
 -- the numbers that each call can be answered with, "in number order over what it takes"
 abbrev pub checked : Request → List ℕ
 checked (Register c f) = 4 ∷ 6 ∷ 7 ∷ 11 ∷ []
@@ -37,20 +41,7 @@ checked (MoveOut j h f) = 5 ∷ 7 ∷ 8 ∷ 9 ∷ 10 ∷ 11 ∷ 12 ∷ 13 ∷ 16
 checked (MoveIn c j h) = 4 ∷ 5 ∷ 7 ∷ 8 ∷ 9 ∷ 10 ∷ 11 ∷ 12 ∷ 14 ∷ []
 checked (Delete j f) = 5 ∷ 7 ∷ 8 ∷ 9 ∷ 10 ∷ 11 ∷ 16 ∷ []
 
--- Demand 1, of one call on any buffers: "every call that meets a refusal condition .. gets that number, the first in the
--- order .., and no byte changes. Accepted then: every other call"
-pub record RefusedFirst (k : Request) (b : Buffers) : Type 0 where
-  -- its checks are these and "go in number order over what it takes"
-  pub checks : numbersOf (conditions k b) ≡ checked k
-  -- a number other than 0 is answered where its condition holds and none before it, and only there
-  pub refused : (n : ℕ) → n ≢ 0 → FirstToHold n (conditions k b) → perform k b .answer ≡ n
-  pub only-refused : (n : ℕ) → n ≢ 0 → perform k b .answer ≡ n → FirstToHold n (conditions k b)
-  pub unchanged : perform k b .answer ≢ 0 → perform k b .buffers ≡ b
-  -- 0 is answered where no condition holds, and only there
-  pub accepted : NoneHolds (conditions k b) → perform k b .answer ≡ 0
-  pub only-accepted : perform k b .answer ≡ 0 → NoneHolds (conditions k b)
-  pub carried-out : perform k b .answer ≡ 0 → perform k b .buffers ≡ effect k b
-
+-- the three buffers hold bytes
 pub record AreBytes (b : Buffers) : Type 0 where
   pub ledger : Bytes (b .ledger)
   pub titles : Bytes (b .titles)
@@ -65,4 +56,6 @@ pub record InBounds (b after : Buffers) : Type 0 where
 
 -- DEMAND 1, of every call on all buffers, damaged ones included
 abbrev pub Demand1 : Type 0
-Demand1 = (k : Request) (b : Buffers) → RefusedFirst k b × InBounds b (perform k b .buffers)
+Demand1 =
+    (k : Request) (b : Buffers)
+    → RefusedFirst Buffers (checked k) (conditions k b) (perform k b .answer) b (perform k b .buffers) (effect k b) × InBounds b (perform k b .buffers)

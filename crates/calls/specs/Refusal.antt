@@ -1,7 +1,7 @@
 -- Refusal conditions with their numbers, and the answer that they give.
 use Prim.Native.Nat.{ℕ}
 use mathlib.Core.Path.{_≡_}
-use mathlib.Core.Logic.{_⊎_}
+use mathlib.Core.Logic.{_≢_, _⊎_}
 use mathlib.Core.List.{List, [], _∷_}
 use mathlib.Core.Bool.{Bool, true, false, not, cond}
 
@@ -34,3 +34,18 @@ FirstToHold n ((m when b) ∷ rest) = ((b ≡ true) × (m ≡ n)) ⊎ ((b ≡ fa
 abbrev pub NoneHolds : List Condition → Type 0
 NoneHolds [] = Unit
 NoneHolds ((m when b) ∷ rest) = (b ≡ false) × NoneHolds rest
+
+-- Demand 1 of whatever checks the conditions `cs`, answers, and leaves `after` where it found `before`; carried out, it leaves
+-- `made`: "every call that meets a refusal condition .. gets that number, the first in the order .., and no byte changes.
+-- Accepted then: every other call"
+pub record RefusedFirst (A : Type 0) (numbers : List ℕ) (cs : List Condition) (answer : ℕ) (before after made : A) : Type 0 where
+  -- its checks have these numbers, in this order
+  pub checks : numbersOf cs ≡ numbers
+  -- a number other than 0 is answered where its condition holds and none before it, and only there
+  pub refused : (n : ℕ) → n ≢ 0 → FirstToHold n cs → answer ≡ n
+  pub only-refused : (n : ℕ) → n ≢ 0 → answer ≡ n → FirstToHold n cs
+  pub unchanged : answer ≢ 0 → after ≡ before
+  -- 0 is answered where no condition holds, and only there
+  pub accepted : NoneHolds cs → answer ≡ 0
+  pub only-accepted : answer ≡ 0 → NoneHolds cs
+  pub carried-out : answer ≡ 0 → after ≡ made

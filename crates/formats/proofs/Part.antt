@@ -1,7 +1,7 @@
 -- The laws of `part`, `put`, `fitting` and `replaced`: the same place, places apart, lengths, puts one after the other, and parts
 -- that were lent.
 -- Assumes nothing.
-use Prim.Native.Nat.{ℕ, suc, _+_, _-_, _≤_, _<_, min}
+use Prim.Native.Nat.{ℕ, zero, suc, _+_, _-_, _≤_, _<_, min}
 use mathlib.Core.Path.{_≡_, refl, sym, ap, _∙_}
 use mathlib.Core.List.{List, [], _∷_, _++_, append-nil}
 use native.Mathlib.Decide.{decLe, decLt}
@@ -36,6 +36,16 @@ part-front l a n m = go (decLe m n)
     go : Dec (m ≤ n) → part (part l a n) 0 m ≡ part l a (min n m)
     go (yes h) = let e : min n m ≡ m = omega arith in rw e (take-take m n (drop a l) h)
     go (no h) = let e : min n m ≡ n = omega arith in rw e (take-all m (part l a n) (omega (arith, part-most a n l)))
+
+-- a part of the first w bytes is a part of the whole
+part-of-front : (a n w : ℕ) (l : List ℕ) → a + n ≤ w → take n (drop a (take w l)) ≡ take n (drop a l)
+part-of-front zero n w l h = take-take n w l (omega arith)
+part-of-front (suc a) n zero l h = absurd (omega arith)
+part-of-front (suc a) n (suc w) [] h = refl
+part-of-front (suc a) n (suc w) (b ∷ l) h = part-of-front a n w l (omega arith)
+
+pub part-inside : (l : List ℕ) (a n w : ℕ) → a + n ≤ w → part (part l 0 w) a n ≡ part l a n
+part-inside l a n w h = part-of-front a n w l h
 
 module _ (l p : List ℕ) (a : ℕ) (within : a + length p ≤ length l) where
   front : length (take a l) ≡ a

@@ -12,11 +12,13 @@ use Rattle.formats.specs.declared.facts.Facts.{Facts}
 use Rattle.formats.specs.declared.facts.Fillers.{Fillers}
 use Rattle.requests.specs.declared.request.Request.{Request}
 use Rattle.requests.specs.declared.request.Request.the-variants.{Record, MoveIn, Delete}
+use Rattle.formats.specs.declared.row.RowState.the-variants.{Away}
 use Rattle.calls.specs.Buffers.{Buffers, kindAt, contentAt, isFull}
 use Rattle.calls.specs.Conditions.{conditions}
 use Rattle.calls.specs.Effect.{effect}
 use Rattle.calls.specs.Perform.{refusal, perform}
-use Rattle.calls.proofs.Passed.{Passed, passed, OnCard, on-card, away-row, Deletes, a-copy, a-holder, deletes}
+use Rattle.calls.specs.Needs.{Deletable, a-copy, a-holder, Needs}
+use Rattle.calls.proofs.Passed.{needs-met, OnCard, row-in}
 use Rattle.calls.proofs.Views.{row-inside, entry-inside}
 use Rattle.music_counter.specs.Answer.{Answers}
 
@@ -31,10 +33,10 @@ module _ (k : Request) (b : Buffers) {w : ℕ} (e : w ≡ refusal k b) where
   unfolding perform
   done {after} zero same = simp (eq-eqb (refusal k b) 0 (sym e ∙ zero), sym e ∙ zero, same)
 
-  -- and none of its conditions holds
-  pub accepted : w ≡ 0 → Passed k b
+  -- and its needs are met
+  pub accepted : w ≡ 0 → Needs k b
   unfolding perform
-  accepted zero = passed k b (sym e ∙ zero)
+  accepted zero = needs-met k b (sym e ∙ zero)
 
 -- THE PLACES of an accepted call are inside its tables
 
@@ -46,12 +48,12 @@ module _ (b : Buffers) (j : ℕ) (on : OnCard b j) where
   rules-room = entry-inside 32 (b .rules) (on .rules-long) j (on .entry)
 
 -- the row of a full entry that is deleted
-pub deleted-row : (b : Buffers) (j : EntryNumber) (f : Fillers) → Passed (Delete j f) b → isFull (kindAt b (j .0)) ≡ true → 24 * contentAt b (j .0) + 24 ≤ length (b .ledger)
-deleted-row b j f t full = by (deletes b (j .0) (t 10 .0) (t 11 .0))
+pub deleted-row : (b : Buffers) (j : EntryNumber) (f : Fillers) → Needs (Delete j f) b → isFull (kindAt b (j .0)) ≡ true → 24 * contentAt b (j .0) + 24 ≤ length (b .ledger)
+deleted-row b j f n full = by (n .deletable)
   where
-    by : Deletes b (j .0) → 24 * contentAt b (j .0) + 24 ≤ length (b .ledger)
+    by : Deletable (j .0) f b → 24 * contentAt b (j .0) + 24 ≤ length (b .ledger)
     by (a-copy e) = absurd (true≢false (sym full ∙ ap isFull e))
-    by (a-holder e away) = row-inside (b .ledger) (contentAt b (j .0)) (away-row b (contentAt b (j .0)) (on-card (Delete j f) b t .head) away)
+    by (a-holder e away key) = row-inside (b .ledger) (contentAt b (j .0)) (row-in b (contentAt b (j .0)) Away refl (n .heads .ledger) away)
 
 -- WHAT THE REFUSAL DOES NOT DEPEND ON
 

@@ -24,15 +24,15 @@ use Rattle.formats.proofs.Tests.{split}
 use Rattle.formats.proofs.entry.Laws.{kind-zeros}
 use Rattle.formats.proofs.row.Laws.{state-zeros}
 use Rattle.formats.proofs.head.Laws.{fresh-rows, fresh-row, fresh-title, fresh-rule, fresh-ledger-bytes, fresh-titles-bytes, fresh-rules-bytes}
-use Rattle.calls.specs.Buffers.{Buffers, rowAt, ruleAt, stateIn, stateAt, kindAt, contentAt, factsAt, isHere, one, fresh}
-use Rattle.calls.specs.Effect.{effect}
+use Rattle.calls.specs.Buffers.{Buffers, rowAt, ruleAt, stateIn, stateAt, kindAt, contentAt, factsAt, isHere, one, fresh, Within}
 use Rattle.calls.specs.Perform.{perform, AreBytes}
 use Rattle.calls.specs.History.{Answered, Log, lastAt, Action, actions, times, grant, Run, next, start, run, holders, Holder, in-row, in-entry, TitleClaim, History}
-use Rattle.calls.proofs.Refusals.{unchanged, carried-out}
-use Rattle.calls.proofs.Passed.{passed}
+use Rattle.calls.proofs.Refusals.{unchanged}
+use Rattle.calls.proofs.Passed.{needs-met}
 use Rattle.calls.proofs.InBounds.{in-bounds}
+use Rattle.calls.proofs.Fresh.{fresh-free, fresh-bytes}
 use Rattle.calls.proofs.Views.{placeBy, placeOf, view, full-entry, copies-seen, fulls-seen}
-use Rattle.calls.proofs.History.Totals.{Within, total-none}
+use Rattle.calls.proofs.History.Totals.{total-none}
 use Rattle.calls.proofs.History.Titles.{vacant, copyIn, fullIn, TitleInvariant, Accounts, NotGranted}
 use Rattle.calls.proofs.History.Step.{At, Invariant, kept, copiesIn, fullsIn, holder-found}
 use Rattle.calls.proofs.History.Calls.{change}
@@ -62,10 +62,7 @@ module _ (rows application cardApplication : ℕ) (low : 1 ≤ rows) (high : row
 
   -- every place has nothing
   nothing-there : (j : ℕ) → Within 999 j → view b₀ .places j ≡ vacant
-  nothing-there j l =
-      ap (λ (t : List ℕ). placeOf t (ruleAt (b₀ .rules) j)) (fresh-title j (l .from) (l .to))
-      ∙ ap (placeOf (replicate 16 0)) (fresh-rule cardApplication j (l .from) (l .to))
-      ∙ ap (λ (k : EntryKind). placeBy k (idOf (replicate 16 0)) (entryFacts (replicate 16 0) (replicate 32 0))) kind-zeros
+  nothing-there j l = ap (λ (k : EntryKind). placeBy k (contentAt b₀ j) (factsAt b₀ j)) (fresh-free rows application cardApplication j l)
 
   not-granted : (c : ℕ) → NotGranted (actions c []) (copiesIn 999 c (view b₀)) (fullsIn 999 c (view b₀))
   unfolding actions times grant
@@ -83,9 +80,6 @@ module _ (rows application cardApplication : ℕ) (low : 1 ≤ rows) (high : row
 
   begins : Invariant 999 [] (view b₀)
   begins = record { titles = λ c. title-starts c (blank c); agree = λ p l. rw (nothing-there p l) tt }
-
-  fresh-bytes : AreBytes b₀
-  fresh-bytes = record { ledger = fresh-ledger-bytes rows application; titles = fresh-titles-bytes; rules = fresh-rules-bytes cardApplication }
 
 -- THE LIST
 
@@ -111,8 +105,7 @@ goes-on k w s =
     by : Dec (perform k (w .buffers) .answer ≡ 0) → Invariant 999 (next k w .log) (view (perform k (w .buffers) .buffers))
     by (yes zero) =
         let b = w .buffers in
-        rw (zero, carried-out k b zero)
-        (kept 999 k (w .log) (view b) (view (effect k b)) (change (w .log) b (s .inv) (s .bytes) k (passed k b zero)) (s .inv))
+        rw zero (kept 999 k (w .log) (view b) (view (perform k b .buffers)) (change (w .log) b (s .inv) (s .bytes) k (needs-met k b zero)) (s .inv))
     by (no refused) =
         let a : Answered = record { call = k; answer = perform k (w .buffers) .answer } in
         rw (unchanged k (w .buffers) refused)
@@ -175,5 +168,5 @@ pub history : History
 history rows application cardApplication low high ks c f e =
     let w = run ks (start rows application cardApplication) in
     let s = always ks (start rows application cardApplication)
-    (record { inv = begins rows application cardApplication low high; bytes = fresh-bytes rows application cardApplication low high }) in
+    (record { inv = begins rows application cardApplication low high; bytes = fresh-bytes rows application cardApplication }) in
     title-claim c f (actions c (w .log)) (w .buffers) (stateAt (w .buffers) c) refl (s .inv .titles c) e

@@ -10,9 +10,9 @@ use borrow.Author.Tests.{ne-eqb}
 use Rattle.formats.specs.declared.facts.Facts.{Facts}
 use Rattle.requests.specs.declared.request.Request.{Request}
 use Rattle.formats.specs.declared.row.RowState.{RowState}
-use Rattle.calls.specs.Buffers.{total}
+use Rattle.calls.specs.Buffers.{total, Within}
 use Rattle.calls.specs.History.{Answered, Log, LastPut, aCopy, theHolder, puts, lastAt, Action, event, actions}
-use Rattle.calls.proofs.History.Totals.{Within, total-same, total-put, total-at, total-some}
+use Rattle.calls.proofs.History.Totals.{total-same, total-put, total-at, total-some}
 use Rattle.calls.proofs.History.Titles.{Place, vacant, copy, full, copyIn, fullIn, eqb-self, TitleInvariant, TitleStep, own, other, unaffected}
 
 -- what the titles' rows and the places are

@@ -5,12 +5,7 @@ use mathlib.Core.Path.{_≡_, refl, ap}
 use mathlib.Core.Logic.{_≢_}
 use native.Mathlib.Omega.{arith}
 use native.Mathlib.Decide.{ℕ-discrete}
-use Rattle.calls.specs.Buffers.{total}
-
--- p is one of the places 1 to n
-pub record Within (n p : ℕ) : Type 0 where
-  pub from : 1 ≤ p
-  pub to : p ≤ n
+use Rattle.calls.specs.Buffers.{total, Within}
 
 -- the last place is one, and so is each before it
 last : (n : ℕ) → Within (suc n) (suc n)

@@ -7,13 +7,13 @@ use mathlib.Core.Bool.{true}
 use mathlib.Core.Logic.{_⊎_, inr, ⊎-map}
 use native.Mathlib.Omega.{arith}
 use lib.ListN.{length, getD, replicate, length-append, length-replicate, getD-replicate}
-use lib.Seq.{ext-getD, getD-append-add}
+use lib.Seq.{ext-getD, getD-take, getD-append-add}
 use lib.Dec.{lit<}
 use borrow.Author.Tests.{le-leb, leb-true, eq-eqb, eqb-true}
-use Rattle.formats.specs.Part.{part, put}
+use Rattle.formats.specs.Part.{part}
 use Rattle.formats.specs.Field.{number, bytesOf}
 use Rattle.formats.specs.Head.{ledgerApplication, rowsOf, ledgerPasses, tablePasses, titlesPass, rulesPass, rulesApplication, ledgerAnswer, titlesAnswer, rulesAnswer, rulesAnswerFor, freshLedger, tableHead, freshTitles, freshRules}
-use Rattle.formats.proofs.Part.{part-length, getD-part, put-length, part-put-before, getD-put-before}
+use Rattle.formats.proofs.Part.{part-length, getD-part, part-inside}
 use Rattle.formats.specs.Bytes.{Bytes}
 use Rattle.formats.proofs.Bytes.{Listed, none, more, bytes, then, zeros, field}
 use Rattle.formats.proofs.field.Laws.{length-bytesOf, number-whole}
@@ -129,44 +129,44 @@ titles-length t e = titles-head e .table .long
 pub rules-length : (r : List ℕ) → rulesPass r ≡ true → length r ≡ 32000
 rules-length r e = rules-head e .table .long
 
--- what is put behind a head leaves the head as it was
-module _ (l p : List ℕ) (a : ℕ) (within : a + length p ≤ length l) where
-  -- a number in front of it
-  same : (b n : ℕ) → b + n ≤ a → number (part (put l a p) b n) ≡ number (part l b n)
-  same b n h = ap number (part-put-before l p a within b n h)
+-- tables of one length whose first bytes are the same have the same head
+module _ (width : ℕ) (old new : List ℕ) (long : length new ≡ length old) (head : part new 0 width ≡ part old 0 width) where
+  -- a field of it, and a byte
+  field-kept : (a n : ℕ) → a + n ≤ width → number (part new a n) ≡ number (part old a n)
+  field-kept a n h = ap number (sym (part-inside new a n width h) ∙ ap (λ (l : List ℕ). part l a n) head ∙ part-inside old a n width h)
 
-  -- the ledger's application number
-  pub ledger-application-kept : 24 ≤ a → ledgerApplication (put l a p) ≡ ledgerApplication l
-  ledger-application-kept h = same 0 2 (omega arith)
+  byte-kept : (i : ℕ) → i < width → getD new i 0 ≡ getD old i 0
+  byte-kept i h = sym (getD-take width new i 0 h) ∙ ap (λ (l : List ℕ). getD l i 0) head ∙ getD-take width old i 0 h
 
-  -- the ledger's count of rows
-  pub rows-kept : 24 ≤ a → rowsOf (put l a p) ≡ rowsOf l
-  rows-kept h = same 2 2 (omega arith)
+  -- the ledger's application number and its count of rows, and whether it passes
+  pub ledger-application-kept : 24 ≤ width → ledgerApplication new ≡ ledgerApplication old
+  ledger-application-kept h = field-kept 0 2 (omega arith)
 
-  -- whether a ledger passes
-  pub ledger-kept : 24 ≤ a → ledgerPasses (put l a p) ≡ ledgerPasses l
+  pub rows-kept : 24 ≤ width → rowsOf new ≡ rowsOf old
+  rows-kept h = field-kept 2 2 (omega arith)
+
+  pub ledger-kept : 24 ≤ width → ledgerPasses new ≡ ledgerPasses old
   unfolding ledgerPasses
-  ledger-kept h = simp (rows-kept h, put-length l p a within)
+  ledger-kept h = simp (rows-kept h, long)
 
   -- what the two card tables share
-  table-kept : 16 ≤ a → (identifier size width mark : ℕ) → tablePasses identifier size width mark (put l a p) ≡ tablePasses identifier size width mark l
+  table-kept : 16 ≤ width → (identifier size entry mark : ℕ) → tablePasses identifier size entry mark new ≡ tablePasses identifier size entry mark old
   unfolding tablePasses
-  table-kept h identifier size width mark =
-      simp (put-length l p a within, same 0 2 (omega arith), same 4 4 (omega arith), same 10 2 (omega arith), getD-put-before l p a within 12 (omega arith), getD-put-before l p a within 13 (omega arith))
+  table-kept h identifier size entry mark =
+      simp (long, field-kept 0 2 (omega arith), field-kept 4 4 (omega arith), field-kept 10 2 (omega arith), byte-kept 12 (omega arith), byte-kept 13 (omega arith))
 
   -- whether a title table passes
-  pub titles-kept : 16 ≤ a → titlesPass (put l a p) ≡ titlesPass l
+  pub titles-kept : 16 ≤ width → titlesPass new ≡ titlesPass old
   unfolding titlesPass
-  titles-kept h = simp (table-kept h, getD-put-before l p a within 3 (omega arith), same 8 2 (omega arith))
+  titles-kept h = simp (table-kept h, byte-kept 3 (omega arith), field-kept 8 2 (omega arith))
 
-  -- whether a rule table passes
-  pub rules-kept : 32 ≤ a → rulesPass (put l a p) ≡ rulesPass l
+  -- whether a rule table passes, and its application number
+  pub rules-kept : 32 ≤ width → rulesPass new ≡ rulesPass old
   unfolding rulesPass
-  rules-kept h = let k : 16 ≤ a = omega arith in simp (table-kept k, getD-put-before l p a within 3 (omega arith))
+  rules-kept h = let k : 16 ≤ width = omega arith in simp (table-kept k, byte-kept 3 (omega arith))
 
-  -- the rule table's application number
-  pub rules-application-kept : 32 ≤ a → rulesApplication (put l a p) ≡ rulesApplication l
-  rules-application-kept h = same 8 2 (omega arith)
+  pub rules-application-kept : 32 ≤ width → rulesApplication new ≡ rulesApplication old
+  rules-application-kept h = field-kept 8 2 (omega arith)
 
 -- a part of the zeros behind a front
 pub zeros-part : (front : List ℕ) (n a m : ℕ) → length front ≤ a → a + m ≤ length front + n → part (front ++ replicate n 0) a m ≡ replicate m 0

@@ -1,0 +1,38 @@
+-- A freshly formatted ledger and card: heads that pass, rows that are empty, entries that are free, and bytes all over.
+-- Assumes nothing.
+use Prim.Native.Nat.{ℕ, _≤_, _<_, _^_}
+use mathlib.Core.Path.{_≡_, sym, ap, ap₂, _∙_}
+use native.Mathlib.Omega.{arith}
+use Rattle.formats.specs.Entry.{kindOf}
+use Rattle.formats.specs.Row.{stateOf}
+use Rattle.formats.specs.declared.entry.EntryKind.the-variants.{Free}
+use Rattle.formats.specs.declared.row.RowState.the-variants.{Empty}
+use Rattle.formats.proofs.entry.Laws.{kind-zeros}
+use Rattle.formats.proofs.row.Laws.{state-zeros}
+use Rattle.formats.proofs.head.Laws.{fresh-ledger-application, fresh-rows, fresh-ledger-passes, fresh-row, fresh-titles-pass, fresh-title, fresh-rules-application, fresh-rules-pass, fresh-rule, fresh-ledger-bytes, fresh-titles-bytes, fresh-rules-bytes}
+use Rattle.calls.specs.Buffers.{stateAt, kindAt, fresh, Within}
+use Rattle.calls.specs.Perform.{AreBytes}
+use Rattle.calls.specs.Needs.{HeadsPass}
+use Rattle.calls.proofs.Views.{state-of-row}
+
+module _ (rows application cardApplication : ℕ) where
+  pub fresh-empty : rows ≤ 999 → (c : ℕ) → Within rows c → stateAt (fresh rows application cardApplication) c ≡ Empty
+  fresh-empty high c is =
+      let r = fresh-rows rows application (omega arith) in
+      state-of-row _ c (is .from) (omega (arith, is .to)) ∙ ap stateOf (fresh-row rows application c (is .from) (is .to)) ∙ state-zeros
+
+  pub fresh-free : (j : ℕ) → Within 999 j → kindAt (fresh rows application cardApplication) j ≡ Free
+  fresh-free j l = ap₂ kindOf (fresh-title j (l .from) (l .to)) (fresh-rule cardApplication j (l .from) (l .to)) ∙ kind-zeros
+
+  pub fresh-bytes : AreBytes (fresh rows application cardApplication)
+  fresh-bytes = record { ledger = fresh-ledger-bytes rows application; titles = fresh-titles-bytes; rules = fresh-rules-bytes cardApplication }
+
+-- of one application
+pub fresh-heads : (rows application : ℕ) → 1 ≤ rows → rows ≤ 999 → application < 2 ^ 16 → HeadsPass (fresh rows application application)
+fresh-heads rows application low high small =
+    record {
+      ledger = fresh-ledger-passes rows application low high;
+      titles = fresh-titles-pass;
+      rules = fresh-rules-pass application;
+      application = fresh-rules-application application small ∙ sym (fresh-ledger-application rows application small);
+    }

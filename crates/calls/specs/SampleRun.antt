@@ -1,0 +1,34 @@
+-- Document 01's sample run of the program, as calls on a fresh ledger and card: "Input, all in hexadecimal, 01 01 02 00 01 01 05
+-- 06, 03 01 07, 03 01 08, 06 01 09 00, 04 07 09, 06 01 09 00".
+use Prim.Native.Nat.{ℕ}
+use mathlib.Core.Path.{_≡_}
+use mathlib.Core.List.{List, [], _∷_}
+use Rattle.formats.specs.declared.facts.Facts.{Facts}
+use Rattle.requests.specs.declared.request.Request.{Request}
+use Rattle.requests.specs.declared.request.Request.the-variants.{Register, CheckOut, CheckIn, MoveIn}
+use Rattle.calls.specs.Buffers.{fresh}
+use Rattle.calls.specs.Perform.{answers}
+
+-- the facts of title 1: CCI 2, trigger 0, one right, one permit, keys 5 and 6
+abbrev pub sampleFacts : Facts
+sampleFacts = record { cci = 2; trigger = 0; rights = 1; permits = 1; «title_key» = 5; «sti_key» = 6 }
+
+abbrev pub register : Request
+register = Register (record { 0 = 1 }) sampleFacts
+
+-- check-out of title 1 to an entry, check-in of entry 7 with the filler 9, and move in of title 1 to entry 9 with C_HASH 0
+abbrev pub checkOut : ℕ → Request
+checkOut entry = CheckOut (record { 0 = 1 }) (record { 0 = entry })
+
+abbrev pub checkIn : Request
+checkIn = CheckIn (record { 0 = 7 }) 9
+
+abbrev pub moveIn : Request
+moveIn = MoveIn (record { 0 = 1 }) (record { 0 = 9 }) 0
+
+abbrev pub sampleRequests : List Request
+sampleRequests = register ∷ checkOut 7 ∷ checkOut 8 ∷ moveIn ∷ checkIn ∷ moveIn ∷ []
+
+-- "formats a ledger of 64 rows and a card, application number 0": the second check-out finds no permit, the first move in a copy
+abbrev pub SampleRun : Type 0
+SampleRun = answers sampleRequests (fresh 64 0 0) ≡ 0 ∷ 0 ∷ 12 ∷ 14 ∷ 0 ∷ 0 ∷ []
