@@ -42,7 +42,7 @@ use Rattle.calls.proofs.Counts.{less-most, more-most}
 use Rattle.calls.proofs.Refusals.{carried-out}
 use Rattle.calls.proofs.Passed.{to-ranges, needs-met, done-where, OnCard, on-card, its-row, row-in}
 use Rattle.calls.proofs.Slots.{slot-same, slots-kept}
-use Rattle.calls.proofs.Views.{IsRow, state-of-row, row-numbered, row-inside, row-length, row-reads, entry-length, entry-same}
+use Rattle.calls.proofs.Views.{IsRow, state-of-row, row-inside, row-length, row-reads, entry-length, entry-same}
 use Rattle.calls.proofs.Untouched.{permits-long, rule-long, wiped-title-long, wiped-rule-long, untouched}
 
 -- THE ROW

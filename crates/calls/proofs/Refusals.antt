@@ -165,11 +165,6 @@ pub unmet : (n : ℕ) (cs : List Condition) → NoneHolds cs → Unmet n cs
 unmet n [] h = tt
 unmet n ((m when b) ∷ cs) h = also (eqb m n) (b ≡ false) (Unmet n cs) (h .0) (unmet n cs (h .1))
 
--- a test that is the only condition of its number
-pub alone : (x : Bool) → (x || false) ≡ true → x ≡ true
-alone true e = refl
-alone false e = e
-
 -- DEMAND 1 of whatever answers the first of its conditions, and leaves what it found unless that is 0
 pub refused-first : {A : Type 0} {numbers : List ℕ} (cs : List Condition) {answer : ℕ} {before after made : A} → numbersOf cs ≡ numbers → refusing cs ≡ true
     → answer ≡ first cs → after ≡ cond (eqb answer 0) made before → RefusedFirst A numbers cs answer before after made

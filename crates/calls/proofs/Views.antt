@@ -54,10 +54,6 @@ module _ (ledger : List ℕ) (c : ℕ) where
       by false e = absurd (in-one (ap (λ (x : Bool). cond x (stateOf (rowAt ledger c)) NoState) e))
 
   module _ (is : IsRow ledger c) where
-    -- its number is 1 to 999
-    pub row-numbered : Within 999 c
-    row-numbered = record { from = is .from; to = omega (arith, is .to, is .head .high) }
-
     pub row-inside : 24 * c + 24 ≤ length ledger
     row-inside = omega (arith, is .to, is .head .size)
 
