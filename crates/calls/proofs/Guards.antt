@@ -11,10 +11,10 @@ use borrow.Author.Tests.{ne-eqb, eqb-true, eqb-false, not-false}
 use Rattle.formats.specs.Part.{put}
 use Rattle.formats.specs.Half.{keyOf, wiped}
 use Rattle.formats.specs.Rule.{wipedRule}
-use Rattle.formats.specs.Facts.{cciPasses, triggerPasses, countPasses, keyPasses, inRange}
+use Rattle.formats.specs.Facts.{factValues, cciPasses, triggerPasses, countPasses, keyPasses, inRange}
 use Rattle.formats.specs.Refusal.{unless}
 use Rattle.formats.specs.Head.{ledgerPasses, ledgerApplication, titlesPass, rulesPass, rulesApplication}
-use Rattle.requests.specs.Request.{kindOf, factArguments, factValues, schema, firstLimit, limitOf}
+use Rattle.requests.specs.Request.{kindOf, factArguments, schema, firstLimit, limitOf}
 use Rattle.formats.specs.Row.{hereRow, plainRow}
 use Rattle.formats.specs.declared.facts.Facts.{Facts}
 use Rattle.formats.specs.declared.facts.ContentId.{ContentId}
