@@ -7,9 +7,9 @@ use mathlib.Core.Bool.{Bool, true, false, not, _&&_, cond}
 use native.Mathlib.Omega.{arith}
 use lib.Dec.{eqb}
 use borrow.Author.Tests.{ne-eqb}
-use Rattle.formats.specs.Facts.{cciPasses, triggerPasses, countPasses, keyPasses, inRange}
+use Rattle.formats.specs.Facts.{cciPasses, triggerPasses, countPasses, keyPasses, inRange, factValues}
 use Rattle.formats.specs.Refusal.{unless}
-use Rattle.requests.specs.Request.{factArguments, factValues, schema, firstLimit, limitOf}
+use Rattle.requests.specs.Request.{factArguments, schema, firstLimit, limitOf}
 use Rattle.formats.specs.declared.facts.Facts.{Facts}
 use Rattle.requests.specs.declared.request.Request.{Request}
 use Rattle.requests.specs.declared.request.Request.the-variants.{Register, Record, CheckOut, CheckIn, MoveOut, MoveIn, Delete}

@@ -7,10 +7,14 @@ pub record Answer : Type 0 where
   pub number : ℕ
   pub values : List ℕ
 
+-- a case by the two
+abbrev pub case : ℕ → List ℕ → Answer
+case number values = record { number = number; values = values }
+
 -- "Done is 0": an answer that is no refusal, with its values
 abbrev pub done : List ℕ → Answer
-done values = record { number = 0; values = values }
+done values = case 0 values
 
 -- a refusal has its number alone
 abbrev pub refused : ℕ → Answer
-refused n = record { number = n; values = [] }
+refused n = case n []

@@ -1,14 +1,22 @@
 -- What the two halves of an entry are together.
 use Prim.Native.Nat.{ℕ}
-use mathlib.Core.List.{List}
+use mathlib.Core.List.{List, []}
 use mathlib.Core.Bool.{Bool, true, false, _&&_, _||_, cond}
 use lib.Dec.{ltb, eqb}
+use Rattle.formats.specs.Answer.{Answer, case}
 use Rattle.formats.specs.Half.{keyOf, idOf, usableOf}
 use Rattle.formats.specs.Title.{cciOf}
 use Rattle.formats.specs.Rule.{triggerOf, rightsOf, permitsOf}
 use Rattle.formats.specs.declared.facts.Facts.{Facts}
 use Rattle.formats.specs.declared.entry.EntryKind.{EntryKind}
 use Rattle.formats.specs.declared.entry.EntryKind.the-variants.{Free, Copy, Full, Torn}
+
+-- the kinds numbered from 0 in the paper's order, "free .. copy .. full .. torn", without values
+unfoldable pub kindAnswer : EntryKind → Answer
+kindAnswer Free = case 0 []
+kindAnswer Copy = case 1 []
+kindAnswer Full = case 2 []
+kindAnswer Torn = case 3 []
 
 -- "free, no half usable; copy, only the title half usable; full, both usable with equal IDs; torn, anything else"
 abbrev pub kindBy : Bool → Bool → Bool → EntryKind

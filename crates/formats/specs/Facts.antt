@@ -1,8 +1,13 @@
 -- "Facts are CCI, trigger, rights, permits, title key, STI key (keys below 2^56)."
 use Prim.Native.Nat.{ℕ, _^_}
+use mathlib.Core.List.{List, [], _∷_}
 use mathlib.Core.Bool.{Bool, not, _&&_}
 use lib.Dec.{leb, ltb, eqb}
 use Rattle.formats.specs.declared.facts.Facts.{Facts}
+
+-- the facts in that order
+abbrev pub factValues : Facts → List ℕ
+factValues f = f .cci ∷ f .trigger ∷ f .rights ∷ f .permits ∷ f .«title_key» ∷ f .«sti_key» ∷ []
 
 -- "CCI is 0, 2 or 3"
 abbrev pub cciPasses : ℕ → Bool

@@ -6,10 +6,20 @@ use lib.ListN.{length, getD, replicate}
 use lib.Dec.{eqb}
 use Rattle.formats.specs.Part.{part, put}
 use Rattle.formats.specs.Field.{number, bytesOf}
-use Rattle.formats.specs.Facts.{inRange}
+use Rattle.formats.specs.Answer.{Answer, case}
+use Rattle.formats.specs.Facts.{factValues, inRange}
 use Rattle.formats.specs.declared.facts.Facts.{Facts}
 use Rattle.formats.specs.declared.row.RowState.{RowState}
 use Rattle.formats.specs.declared.row.RowState.the-variants.{Empty, Here, Away, Gone, NoState}
+
+-- "byte 0 state (0 empty, 1 here, 2 away on the card, 3 gone)", with the facts of a row that is here; 4 for bytes that are no
+-- state
+unfoldable pub stateAnswer : RowState → Answer
+stateAnswer Empty = case 0 []
+stateAnswer (Here f) = case 1 (factValues f)
+stateAnswer Away = case 2 []
+stateAnswer Gone = case 3 []
+stateAnswer NoState = case 4 []
 
 -- "1 CCI; 2 trigger 0 or 1; 3 move rights; 4 permits; 5-7 zero; 8-14 title key; 15 zero; 16-22 STI key; 23 zero"
 unfoldable pub factsOf : List ℕ → Facts

@@ -1,6 +1,6 @@
 // What the two halves of an entry are together.
 ghost use mathlib.Core.Path.{_≡_};
-ghost use Rattle.formats.specs.Entry.{kindOf, entryFacts};
+ghost use Rattle.formats.specs.Entry.{kindAnswer, kindOf, entryFacts};
 use crate::facts::Facts;
 use crate::half;
 use crate::rule;
@@ -19,7 +19,7 @@ pub enum EntryKind {
 
 // A half that is not usable has ID 0 here, which no usable half has.
 pub fn kind(title: &[u8], rule: &[u8]) -> EntryKind
-    ensures { λ r. ⌜ r ≡ kindOf (now (title .entry)) (now (rule .entry)) ⌝ }
+    ensures { λ r. ⌜ kindAnswer r ≡ kindAnswer (kindOf (now (title .entry)) (now (rule .entry))) ⌝ }
 {
     let title_id = half::usable_id(title);
     let rule_id = half::usable_id(rule);

@@ -74,7 +74,7 @@ pub fn usable_id(half: &[u8]) -> u64
         return 0;
     }
     let tail = field::read_at(half, 8, 8);
-    if tail < FLAG {
+    if tail & FLAG == 0 {
         return 0;
     }
     tail & ID_BITS

@@ -4,7 +4,7 @@ ghost use Prim.Native.Nat.{_+_, _*_, _%_, _^_};
 ghost use lib.ListN.{length};
 ghost use Rattle.formats.specs.Part.{replaced};
 ghost use Rattle.formats.specs.Facts.{inRange};
-ghost use Rattle.formats.specs.Row.{factsOf, stateOf, hereRow, plainRow, withPermits};
+ghost use Rattle.formats.specs.Row.{stateAnswer, factsOf, stateOf, hereRow, plainRow, withPermits};
 use crate::facts::Facts;
 use crate::field;
 
@@ -63,7 +63,7 @@ fn facts(row: &[u8]) -> Facts
 }
 
 pub fn state(row: &[u8]) -> RowState
-    ensures { λ r. ⌜ r ≡ stateOf (now (row .entry)) ⌝ }
+    ensures { λ r. ⌜ stateAnswer r ≡ stateAnswer (stateOf (now (row .entry))) ⌝ }
 {
     if row.len() != 24 {
         return RowState::NoState;

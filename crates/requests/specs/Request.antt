@@ -4,7 +4,7 @@ use mathlib.Core.List.{List, [], _∷_, _++_}
 use mathlib.Core.Bool.{_&&_, cond}
 use lib.ListN.{getD, drop}
 use lib.Dec.{leb, eqb}
-use Rattle.formats.specs.Facts.{cciPasses, triggerPasses, countPasses, keyPasses}
+use Rattle.formats.specs.Facts.{factValues, cciPasses, triggerPasses, countPasses, keyPasses}
 use Rattle.requests.specs.Number.{groups, readNumber, writing, writtenTo}
 use Rattle.formats.specs.Refusal.{unless}
 use Rattle.requests.specs.declared.number.NumberRead.{NumberRead}
@@ -61,9 +61,6 @@ kindOf (CheckIn j f) = 4
 kindOf (MoveOut j h f) = 5
 kindOf (MoveIn c j h) = 6
 kindOf (Delete j f) = 7
-
-abbrev pub factValues : Facts → List ℕ
-factValues f = f .cci ∷ f .trigger ∷ f .rights ∷ f .permits ∷ f .«title_key» ∷ f .«sti_key» ∷ []
 
 abbrev pub fillerValues : Fillers → List ℕ
 fillerValues f = f .f1 ∷ f .f2 ∷ f .f3 ∷ f .f4 ∷ []

@@ -2,7 +2,7 @@
 ghost use mathlib.Core.Path.{_≡_};
 ghost use Rattle.formats.specs.Half.{idOf};
 ghost use Rattle.formats.specs.Rule.{hashOf};
-ghost use Rattle.formats.specs.Entry.{kindOf, entryFacts};
+ghost use Rattle.formats.specs.Entry.{kindAnswer, kindOf, entryFacts};
 ghost use Rattle.calls.specs.Buffers.{titleAt, ruleAt, isFree, isCopy, isFull};
 ghost use Rattle.calls.specs.Conditions.{leavesKey, mayNotMove};
 ghost use Prim.Native.Nat.{ℕ};
@@ -42,7 +42,7 @@ pub fn rule_half(rules: &[u8], entry: EntryNumber) -> &[u8]
 
 // What an entry is.
 pub fn kind(titles: &[u8], rules: &[u8], entry: EntryNumber) -> EntryKind
-    ensures { λ r. ⌜ r ≡ kindOf (titleAt (now (titles .entry)) (entry .0)) (ruleAt (now (rules .entry)) (entry .0)) ⌝ }
+    ensures { λ r. ⌜ kindAnswer r ≡ kindAnswer (kindOf (titleAt (now (titles .entry)) (entry .0)) (ruleAt (now (rules .entry)) (entry .0))) ⌝ }
 {
     entry::kind(title_half(titles, entry), rule_half(rules, entry))
 }

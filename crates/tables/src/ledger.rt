@@ -1,5 +1,6 @@
 // The rows of a ledger, by their content ID.
 ghost use mathlib.Core.Path.{_≡_};
+ghost use Rattle.formats.specs.Row.{stateAnswer};
 ghost use Rattle.calls.specs.Buffers.{stateIn, hereFacts, noFacts, isEmpty, isHere, isAway};
 use formats::facts::ContentId;
 use formats::facts::Facts;
@@ -10,7 +11,7 @@ use formats::table;
 
 // The state of a row, read from the part of the ledger that it occupies. Row 0 and rows above R are in none.
 pub fn state(ledger: &[u8], content: ContentId) -> RowState
-    ensures { λ r. ⌜ r ≡ stateIn (now (ledger .entry)) (content .0) ⌝ }
+    ensures { λ r. ⌜ stateAnswer r ≡ stateAnswer (stateIn (now (ledger .entry)) (content .0)) ⌝ }
 {
     let id = content.0;
     if id < 1 {

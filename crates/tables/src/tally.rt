@@ -1,6 +1,6 @@
 // The tally: how many copies of a title are on a card.
 ghost use mathlib.Core.Path.{_≡_};
-ghost use Rattle.tables.specs.Tally.{tallyNumber, tallyValues, tallyRefusal, talliedValues};
+ghost use Rattle.tables.specs.Tally.{tallyAnswer, tallied};
 use crate::copies;
 use formats::facts::ContentId;
 use formats::head;
@@ -13,8 +13,7 @@ pub enum Tallied {
 }
 
 pub fn tally(titles: &[u8], rules: &[u8], content: ContentId) -> Tallied
-    ensures { λ r. ⌜ tallyNumber r ≡ tallyRefusal (now (titles .entry)) (now (rules .entry)) (content .0) ⌝ }
-    ensures { λ r. ⌜ tallyValues r ≡ talliedValues (now (titles .entry)) (now (rules .entry)) (content .0) ⌝ }
+    ensures { λ r. ⌜ tallyAnswer r ≡ tallied (now (titles .entry)) (now (rules .entry)) (content .0) ⌝ }
 {
     let id = content.0;
     if id < 1 {

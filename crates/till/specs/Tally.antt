@@ -1,11 +1,8 @@
 -- The number of copies that a tally lends a place for.
 use Prim.Native.Nat.{ℕ}
-use mathlib.Core.List.{List}
-use mathlib.Core.Bool.{cond}
-use lib.Dec.{eqb}
-use Rattle.calls.specs.Buffers.{copies}
-use Rattle.tables.specs.Tally.{tallyRefusal}
+use lib.ListN.{getD}
+use Rattle.formats.specs.Answer.{Answer}
 
--- what stands there after a tally of c: the number of copies, or, on a refusal, what stood there before
-unfoldable pub copiesAfter : List ℕ → List ℕ → ℕ → ℕ → ℕ
-copiesAfter titles rules c before = cond (eqb (tallyRefusal titles rules c) 0) (copies c titles rules) before
+-- what stands there after a tally with this answer: the number of copies, or, on a refusal, what stood there before
+abbrev pub copiesAfter : Answer → ℕ → ℕ
+copiesAfter answer before = getD (answer .values) 0 before

@@ -4,7 +4,7 @@ ghost use mathlib.Core.Path.{_≡_};
 ghost use Rattle.requests.specs.declared.request.Request.the-variants.{Register, Record, CheckOut, CheckIn, MoveOut, MoveIn, Delete};
 ghost use Rattle.calls.specs.Buffers.{lent};
 ghost use Rattle.tables.specs.Format.{ledgerFormatting, formattedLedger, cardFormatting, formattedTitles, formattedRules};
-ghost use Rattle.tables.specs.Tally.{tallyRefusal};
+ghost use Rattle.tables.specs.Tally.{tallied};
 ghost use Rattle.music_counter.specs.Answer.{Answers, AnswersByLedger};
 ghost use Rattle.till.specs.Given.{title, place, facts, fillers};
 ghost use Rattle.till.specs.Tally.{copiesAfter};
@@ -207,8 +207,8 @@ pub extern "C" fn counter_delete(
 // Answers 0, or 4, 8 or 9 with `copies` as it was.
 #[no_mangle]
 pub extern "C" fn counter_tally(titles: &[u8], rules: &[u8], content: u64, copies: &mut u64) -> u64
-    ensures { λ r. ⌜ r ≡ tallyRefusal (now (titles .entry)) (now (rules .entry)) content ⌝ }
-    ensures { λ _. ⌜ now (copies .exit) ≡ copiesAfter (now (titles .entry)) (now (rules .entry)) content (now (copies .entry)) ⌝ }
+    ensures { λ r. ⌜ r ≡ tallied (now (titles .entry)) (now (rules .entry)) content .number ⌝ }
+    ensures { λ _. ⌜ now (copies .exit) ≡ copiesAfter (tallied (now (titles .entry)) (now (rules .entry)) content) (now (copies .entry)) ⌝ }
 {
     let found = tally::tally(titles, rules, ContentId(content));
     match found {

@@ -1,16 +1,18 @@
 -- The laws of an entry's kind: one for each way to it, what a kind says of the halves, and what writing and wiping make of them.
 -- Assumes nothing.
 use Prim.Native.Nat.{ℕ, _^_, _≤_, _<_}
-use mathlib.Core.Path.{_≡_, refl, sym, _∙_}
+use mathlib.Core.Path.{_≡_, refl, sym, ap, _∙_}
 use mathlib.Core.List.{List}
 use mathlib.Core.Bool.{Bool, true, false, _||_, cond}
 use native.Mathlib.Omega.{arith}
 use native.Mathlib.Decide.{decLt, ℕ-discrete}
+use lib.Dec.{eqb}
 use lib.ListN.{length, getD, replicate}
 use borrow.Author.Tests.{lt-ltb, le-ltb, eq-eqb, ne-eqb}
+use Rattle.formats.specs.Answer.{Answer}
 use Rattle.formats.specs.Half.{usableOf, idOf, wiped}
 use Rattle.formats.specs.Title.{cciOf, titleHalf}
-use Rattle.formats.specs.Entry.{kindOf, entryFacts}
+use Rattle.formats.specs.Entry.{kindAnswer, kindOf, entryFacts}
 use Rattle.formats.specs.Rule.{ruleHalf, wipedRule}
 use Rattle.formats.specs.declared.facts.Facts.{Facts}
 use Rattle.formats.specs.declared.facts.Fillers.{Fillers}
@@ -21,6 +23,21 @@ use Rattle.formats.proofs.title.Laws.{title-written, title-cci}
 use Rattle.formats.proofs.rule.Laws.{rule-written, rule-trigger, rule-rights, rule-permits, rule-wiped}
 use Rattle.formats.proofs.field.Laws.{number-below}
 use Rattle.formats.proofs.facts.Laws.{Ranges, facts-same}
+
+-- a kind back from its number
+kindFrom : ℕ → EntryKind
+kindFrom n = cond (eqb n 0) Free (cond (eqb n 1) Copy (cond (eqb n 2) Full Torn))
+
+kind-back : (k : EntryKind) → kindFrom (kindAnswer k .number) ≡ k
+unfolding kindAnswer kindFrom
+kind-back Free = refl
+kind-back Copy = refl
+kind-back Full = refl
+kind-back Torn = refl
+
+-- kinds with the same answer are the same
+pub same-kind : {x y : EntryKind} → kindAnswer x ≡ kindAnswer y → x ≡ y
+same-kind {x} {y} e = sym (kind-back x) ∙ ap (λ (a : Answer). kindFrom (a .number)) e ∙ kind-back y
 
 torn-anyway : (b : Bool) → cond b Torn Torn ≡ Torn
 torn-anyway true = refl

@@ -211,12 +211,19 @@ module _ (h : List ℕ) (byte : Bytes h) (size : 16 ≤ length h) where
   pub tail-low : number (part h 8 8) % 1024 ≡ idOf h
   tail-low = omega (arith, number-last 7 8 h (omega arith), number-last 6 8 h (omega arith), byte 14, byte 15)
 
-  -- the flag by that number
-  pub tail-flagged : 2 ^ 63 ≤ number (part h 8 8) → flagOf h ≡ true
-  tail-flagged high = le-leb 128 (getD h 8 0) (omega (arith, tail-top))
+  -- the flag by its mask
+  tail-flag : bitAnd (number (part h 8 8)) (2 ^ 63) ≡ getD h 8 0 / 128 * 2 ^ 63
+  tail-flag = and-high (number (part h 8 8)) 1 63 ∙ omega (arith, tail-top, byte 8)
 
-  pub tail-clear : number (part h 8 8) < 2 ^ 63 → flagOf h ≡ false
-  tail-clear low = lt-leb 128 (getD h 8 0) (omega (arith, tail-top))
+  pub tail-flagged : {w : ℕ} → w ≡ number (part h 8 8) → (bitAnd w (2 ^ 63) ≡ 0 → ⊥) → flagOf h ≡ true
+  tail-flagged e set =
+      elim (decLe 128 (getD h 8 0)) [
+        | yes p ↦ le-leb 128 (getD h 8 0) p
+        | no p ↦ absurd (set (ap (λ (x : ℕ). bitAnd x (2 ^ 63)) e ∙ tail-flag ∙ omega arith))
+      ]
+
+  pub tail-clear : {w : ℕ} → w ≡ number (part h 8 8) → bitAnd w (2 ^ 63) ≡ 0 → flagOf h ≡ false
+  tail-clear e clear = lt-leb 128 (getD h 8 0) (omega (arith, sym tail-flag ∙ sym (ap (λ (x : ℕ). bitAnd x (2 ^ 63)) e) ∙ clear))
 
   -- flag and ID together are above the flag alone where both count
   tail-marks : bitAnd (number (part h 8 8)) (2 ^ 63 + 1023) ≡ getD h 8 0 / 128 * 2 ^ 63 + idOf h

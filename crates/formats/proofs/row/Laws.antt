@@ -11,10 +11,11 @@ use lib.Dec.{eqb}
 use lib.Bits.{bitAnd, bitOr, or-shifted}
 use lib.Pow.{pow-add, shl-exact, shl-lt}
 use borrow.Author.Tests.{ne-eqb, eqb-true}
+use Rattle.formats.specs.Answer.{Answer}
 use Rattle.formats.specs.Part.{part, put}
 use Rattle.formats.specs.Field.{number, bytesOf}
 use Rattle.formats.specs.Facts.{inRange}
-use Rattle.formats.specs.Row.{factsOf, stateOf, hereRow, plainRow, withPermits}
+use Rattle.formats.specs.Row.{stateAnswer, factsOf, stateOf, hereRow, plainRow, withPermits}
 use Rattle.formats.specs.declared.row.RowState.{RowState}
 use Rattle.formats.specs.declared.row.RowState.the-variants.{Empty, Here, Away, Gone, NoState}
 use Rattle.formats.specs.declared.facts.Facts.{Facts}
@@ -26,6 +27,28 @@ use Rattle.formats.specs.Bytes.{Bytes}
 use Rattle.formats.proofs.Bytes.{none, more, bytes, then, zeros, field, bytes-put}
 use Rattle.formats.proofs.Cells.{cells, of-cells}
 use Rattle.formats.proofs.facts.Laws.{Ranges, ranges, in-range, facts-same, permitting}
+
+-- a state back from its number and values
+factsFrom : List ℕ → Facts
+factsFrom vs =
+    record { cci = getD vs 0 0; trigger = getD vs 1 0; rights = getD vs 2 0; permits = getD vs 3 0; «title_key» = getD vs 4 0; «sti_key» = getD vs 5 0 }
+
+stateFrom : Answer → RowState
+stateFrom a =
+    cond (eqb (a .number) 0) Empty
+    (cond (eqb (a .number) 1) (Here (factsFrom (a .values))) (cond (eqb (a .number) 2) Away (cond (eqb (a .number) 3) Gone NoState)))
+
+state-back : (s : RowState) → stateFrom (stateAnswer s) ≡ s
+unfolding stateAnswer factsFrom stateFrom
+state-back Empty = refl
+state-back (Here f) = refl
+state-back Away = refl
+state-back Gone = refl
+state-back NoState = refl
+
+-- states with the same answer are the same
+pub same-state : {x y : RowState} → stateAnswer x ≡ stateAnswer y → x ≡ y
+same-state {x} {y} e = sym (state-back x) ∙ ap stateFrom e ∙ state-back y
 
 -- a part that is not 24 bytes is in no state
 pub is-short : (row : List ℕ) → (length row ≡ 24 → ⊥) → stateOf row ≡ NoState

@@ -1,16 +1,18 @@
 -- What a tally answers, by the first check that fails.
 -- Assumes nothing.
 use Prim.Native.Nat.{ℕ}
-use mathlib.Core.Path.{_≡_, refl, sym, ap, _∙_}
+use mathlib.Core.Path.{_≡_, sym, ap, _∙_}
 use mathlib.Core.List.{List, [], _∷_}
 use mathlib.Core.Bool.{true}
 use native.Mathlib.Omega.{arith}
+use borrow.Author.Tests.{eq-eqb, ne-eqb}
+use Rattle.formats.specs.Answer.{done, refused}
 use Rattle.formats.specs.Head.{titlesPass, titlesAnswer, rulesPass, rulesAnswer}
 use Rattle.formats.proofs.Tests.{passed}
 use Rattle.calls.specs.Buffers.{copies}
 use Rattle.calls.specs.Conditions.{numbered}
-use Rattle.tables.specs.Tally.{tallyRefusal, talliedValues}
-use Rattle.calls.proofs.Refusals.{fails, holds, end, answers, kept, changed}
+use Rattle.tables.specs.Tally.{tallyRefusal, tallied}
+use Rattle.calls.proofs.Refusals.{fails, holds, end, answers}
 
 -- a check of the title table that answers 0 has passed
 pub titles-passed : (t : List ℕ) {w : ℕ} → w ≡ titlesAnswer t → w ≡ 0 → titlesPass t ≡ true
@@ -21,31 +23,31 @@ pub rules-passed : (r : List ℕ) {w : ℕ} → w ≡ rulesAnswer r → w ≡ 0 
 rules-passed r e z = passed (rulesPass r) 9 (omega arith) (sym e ∙ z)
 
 module _ (t r : List ℕ) (c : ℕ) where
-  -- a refusal has no values
-  by : {w : ℕ} → w ≡ tallyRefusal t r c → (w ≡ 0 → ⊥) → (w ≡ tallyRefusal t r c) × ([] ≡ talliedValues t r c)
-  unfolding talliedValues
-  by e h = (e, kept (copies c t r ∷ []) [] e h)
+  -- a refusal has its number alone
+  by : {w : ℕ} → w ≡ tallyRefusal t r c → (w ≡ 0 → ⊥) → refused w ≡ tallied t r c
+  unfolding tallied
+  by e h = ap refused e ∙ simp (ne-eqb (tallyRefusal t r c) 0 (λ z. h (e ∙ z)))
 
   -- the content ID is not 1 to 999
-  pub content-refused : (numbered c ≡ true → ⊥) → (4 ≡ tallyRefusal t r c) × ([] ≡ talliedValues t r c)
+  pub content-refused : (numbered c ≡ true → ⊥) → refused 4 ≡ tallied t r c
   unfolding tallyRefusal
   content-refused h = by (fails 4 (numbered c) _ h) (λ z. omega arith)
 
   module _ (in-range : numbered c ≡ true) where
     -- the title table's length or head is wrong
-    pub titles-refused : {w : ℕ} → w ≡ titlesAnswer t → (w ≡ 0 → ⊥) → (w ≡ tallyRefusal t r c) × ([] ≡ talliedValues t r c)
+    pub titles-refused : {w : ℕ} → w ≡ titlesAnswer t → (w ≡ 0 → ⊥) → refused w ≡ tallied t r c
     unfolding tallyRefusal
     titles-refused e h = by (holds 4 (numbered c) _ in-range (answers 8 (titlesPass t) _ e h)) h
 
     module _ (titles-pass : titlesPass t ≡ true) where
       -- the rule table's length or head is wrong
-      pub rules-refused : {w : ℕ} → w ≡ rulesAnswer r → (w ≡ 0 → ⊥) → (w ≡ tallyRefusal t r c) × ([] ≡ talliedValues t r c)
+      pub rules-refused : {w : ℕ} → w ≡ rulesAnswer r → (w ≡ 0 → ⊥) → refused w ≡ tallied t r c
       unfolding tallyRefusal
       rules-refused e h = by (holds 4 (numbered c) _ in-range (holds 8 (titlesPass t) _ titles-pass (answers 9 (rulesPass r) _ e h))) h
 
       -- nothing refuses
-      pub tallied : {n : ℕ} → rulesPass r ≡ true → n ≡ copies c t r → (0 ≡ tallyRefusal t r c) × (n ∷ [] ≡ talliedValues t r c)
-      unfolding tallyRefusal talliedValues
-      tallied rules-pass e =
+      pub counted : {n : ℕ} → rulesPass r ≡ true → n ≡ copies c t r → done (n ∷ []) ≡ tallied t r c
+      unfolding tallyRefusal tallied
+      counted rules-pass e =
           let z = holds 4 (numbered c) _ in-range (holds 8 (titlesPass t) _ titles-pass (holds 9 (rulesPass r) _ rules-pass end)) in
-          (z, ap (λ (k : ℕ). k ∷ []) e ∙ changed (copies c t r ∷ []) [] z refl)
+          ap (λ (k : ℕ). done (k ∷ [])) e ∙ simp (eq-eqb (tallyRefusal t r c) 0 (sym z))

@@ -1,7 +1,7 @@
 -- `till::counter_tally` meets its contract: the number of copies is written, or what stood in its place is left.
 -- Assumes nothing.
 use borrow.Author.Needs.{needs}
-use Rattle.till.proofs.Tally.{written, left}
+use Rattle.till.proofs.Tally.{by-case}
 use Rattle.till.proofs.counter_tally.Statement.{statement}
 use Rattle.till.proofs.counter_tally.Tie as tie
 
@@ -15,10 +15,10 @@ enum-known-found-2 : tie.Need-enum-known-found-2
 enum-known-found-2 c = search needs
 
 returns : tie.Need-returns
-returns c = written _ _ _ _ (c .before .found .given .1) (c .before .before .before .tally .ensures)
+returns c = by-case _ (c .before .found .given .1) (c .before .before .before .tally .ensures)
 
 returns-2 : tie.Need-returns-2
-returns-2 c = left _ _ _ _ (c .before .found2 .given .1) (c .before .before .before .tally .ensures)
+returns-2 c = by-case _ (c .before .found2 .given .1) (c .before .before .before .tally .ensures)
 
 pub counter-tally-spec : {M : Type 1} → statement M
 counter-tally-spec = tie.close (tie.spec tally-requires enum-known-found enum-known-found-2 returns returns-2)

@@ -2,7 +2,6 @@
 -- Assumes nothing.
 use Prim.Native.Nat.{ℕ, _%_, _<_}
 use mathlib.Core.Path.{ap, _∙_}
-use native.Mathlib.Omega.{arith}
 use denote.Ref.{now}
 use lib.Bits.{and-mask}
 use lib.ListN.{getD}
@@ -23,7 +22,7 @@ returns-2 c =
     let h = now (known .before .args .half) in
     unusable-id h
     (not-flagged h
-    (tail-clear h (λ i. known .shared-slice-known .given i .fits) (c .before .before .if1 .left) (omega (arith, c .before .read-at .ensures, c .if2 .taken))))
+    (tail-clear h (λ i. known .shared-slice-known .given i .fits) (c .before .before .if1 .left) (c .before .read-at .ensures) (c .if2 .taken)))
 
 returns-3 : tie.Need-returns-3
 returns-3 c =
@@ -34,7 +33,7 @@ returns-3 c =
     and-mask (c .before .read-at .result) 10
     ∙ ap (λ (x : ℕ). x % 1024) (c .before .read-at .ensures)
     ∙ tail-low h byte whole
-    ∙ flagged-id h whole (tail-flagged h byte whole (omega (arith, c .before .read-at .ensures, c .if2 .left)))
+    ∙ flagged-id h whole (tail-flagged h byte whole (c .before .read-at .ensures) (c .if2 .left))
 
 pub usable-id-spec : {M : Type 1} → statement M
 usable-id-spec = tie.close (tie.spec returns read-at-requires returns-2 returns-3)

@@ -3,6 +3,7 @@
 use borrow.Author.Needs.{needs}
 use mathlib.Core.Path.{ap, _∙_}
 use mathlib.Core.List.{[]}
+use Rattle.formats.proofs.row.Laws.{same-state}
 use Rattle.calls.specs.Buffers.{hereFacts}
 use Rattle.music_counter.proofs.Effects.{checked-in}
 use Rattle.music_counter.proofs.check_in.apply.Statement.{statement}
@@ -43,7 +44,7 @@ returns c =
     let at-start = at-content .before .before .before .before in
     let a = at-start .args in
     checked-in (a .ledger .now) (a .titles .now) [] (a .entry) (a .f1) (at-content .content .result .0) (at-content .content .ensures)
-    (at-here-facts .here-facts .ensures ∙ ap hereFacts (at-state .state .ensures))
+    (at-here-facts .here-facts .ensures ∙ ap hereFacts (same-state (at-state .state .ensures)))
     (at-one-more .one-more .ensures) (at-set-permits .set-permits .ensures) (at-wipe-title .wipe-title .ensures)
 
 pub apply-spec : {M : Type 1} → statement M

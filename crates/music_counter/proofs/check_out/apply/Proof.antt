@@ -3,6 +3,7 @@
 use borrow.Author.Needs.{needs}
 use mathlib.Core.Path.{ap, _∙_}
 use mathlib.Core.List.{[]}
+use Rattle.formats.proofs.row.Laws.{same-state}
 use Rattle.calls.specs.Buffers.{hereFacts}
 use Rattle.music_counter.proofs.Effects.{checked-out}
 use Rattle.music_counter.proofs.check_out.apply.Statement.{statement}
@@ -33,7 +34,7 @@ returns : tie.Need-returns
 returns c =
     let a = c .before .before .before .before .before .before .before .before .before .before .before .before .before .before .args in
     checked-out (a .ledger .now) (a .titles .now) [] (a .content) (a .entry)
-    (c .before .before .before .before .before .before .before .before .before .here-facts .ensures ∙ ap hereFacts (c .before .before .before .before .before .before .before .before .before .before .state .ensures))
+    (c .before .before .before .before .before .before .before .before .before .here-facts .ensures ∙ ap hereFacts (same-state (c .before .before .before .before .before .before .before .before .before .before .state .ensures)))
     (c .before .before .before .before .before .before .before .one-less .ensures)
     (c .before .before .before .before .before .before .set-permits .ensures)
     (c .before .before .write-title .ensures)

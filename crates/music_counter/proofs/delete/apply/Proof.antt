@@ -2,6 +2,7 @@
 -- Assumes nothing.
 use borrow.Author.Needs.{needs}
 use mathlib.Core.Path.{sym, ap, _∙_}
+use Rattle.formats.proofs.entry.Laws.{same-kind}
 use Rattle.calls.specs.Buffers.{isFull}
 use Rattle.music_counter.proofs.Effects.{deleted, deleted-copy}
 use Rattle.music_counter.proofs.delete.apply.Statement.{statement}
@@ -26,7 +27,7 @@ set-plain-requires c κs =
     let at-kind = at-is-full .before .before .before .before .before in
     let at-content = at-kind .before .before .before in
     let at-pre = at-content .before .before .before .before .before in
-    rw (at-content .content .ensures) (at-pre .pre .0 (sym (at-is-full .is-full .ensures ∙ ap isFull (at-kind .kind .ensures)) ∙ at-if1 .if1 .taken))
+    rw (at-content .content .ensures) (at-pre .pre .0 (sym (at-is-full .is-full .ensures ∙ ap isFull (same-kind (at-kind .kind .ensures))) ∙ at-if1 .if1 .taken))
 
 wipe-rule-requires : tie.Need-wipe-rule-requires
 wipe-rule-requires c κs = search needs
@@ -51,7 +52,7 @@ returns c =
     let at-content = at-kind .before .before .before in
     let at-start = at-content .before .before .before .before .before in
     let a = at-start .args in
-    deleted (a .ledger .now) (a .titles .now) (a .rules .now) (a .entry) (a .fillers) (at-content .content .result .0) (sym (at-is-full .is-full .ensures ∙ ap isFull (at-kind .kind .ensures)) ∙ at-if1 .if1 .taken) (at-content .content .ensures)
+    deleted (a .ledger .now) (a .titles .now) (a .rules .now) (a .entry) (a .fillers) (at-content .content .result .0) (sym (at-is-full .is-full .ensures ∙ ap isFull (same-kind (at-kind .kind .ensures))) ∙ at-if1 .if1 .taken) (at-content .content .ensures)
     (at-set-plain .set-plain .ensures) (at-wipe-title .wipe-title .ensures) (at-wipe-rule .wipe-rule .ensures)
 
 same-length-4 : tie.Need-same-length-4
@@ -67,7 +68,7 @@ returns-2 c =
     let at-kind = at-wipe-title .before .before in
     let at-start = at-kind .before .before .before .before .before .before .before .before in
     let a = at-start .args in
-    deleted-copy (a .ledger .now) (a .titles .now) (a .rules .now) (a .entry) (a .fillers) (sym (at-is-full .is-full .ensures ∙ ap isFull (at-kind .kind .ensures)) ∙ c .if1 .left) (at-wipe-title .wipe-title .ensures)
+    deleted-copy (a .ledger .now) (a .titles .now) (a .rules .now) (a .entry) (a .fillers) (sym (at-is-full .is-full .ensures ∙ ap isFull (same-kind (at-kind .kind .ensures))) ∙ c .if1 .left) (at-wipe-title .wipe-title .ensures)
 
 pub apply-spec : {M : Type 1} → statement M
 apply-spec =

@@ -2,6 +2,7 @@
 -- Assumes nothing.
 use borrow.Author.Needs.{needs}
 use mathlib.Core.Path.{ap, _∙_}
+use Rattle.formats.proofs.row.Laws.{same-state}
 use Rattle.calls.specs.Buffers.{hereFacts}
 use Rattle.calls.specs.Effect.{afterMove}
 use Rattle.music_counter.proofs.Effects.{moved-in}
@@ -33,7 +34,7 @@ returns : tie.Need-returns
 returns c =
     let a = c .before .before .before .before .before .before .before .before .before .before .before .before .before .before .before .before .before .args in
     moved-in (a .ledger .now) (a .titles .now) (a .rules .now) (a .content) (a .entry) (a .hash)
-    (c .before .before .before .before .before .before .before .before .before .before .after-move .ensures ∙ ap afterMove (c .before .before .before .before .before .before .before .before .before .before .before .here-facts .ensures ∙ ap hereFacts (c .before .before .before .before .before .before .before .before .before .before .before .before .state .ensures)))
+    (c .before .before .before .before .before .before .before .before .before .before .after-move .ensures ∙ ap afterMove (c .before .before .before .before .before .before .before .before .before .before .before .here-facts .ensures ∙ ap hereFacts (same-state (c .before .before .before .before .before .before .before .before .before .before .before .before .state .ensures))))
     (c .before .before .before .before .before .before .put-on-card .ensures)
 
 pub apply-spec : {M : Type 1} → statement M

@@ -5,6 +5,8 @@ use mathlib.Core.Path.{ap, _∙_}
 use mathlib.Core.Bool.{not}
 use borrow.Author.Tests.{not-true, not-false}
 use Rattle.formats.specs.Entry.{kindOf}
+use Rattle.formats.proofs.entry.Laws.{same-kind}
+use Rattle.formats.proofs.row.Laws.{same-state}
 use Rattle.calls.specs.Buffers.{titleAt, ruleAt, stateIn, isCopy, isFull, isAway}
 use Rattle.calls.proofs.Refusals.{hit, skip, end}
 use Rattle.refusals.proofs.Stages.{told, denied, or-first, or-next, or-second, and-first, and-next}
@@ -23,7 +25,7 @@ is-copy-requires c κs = search needs
 returns : tie.Need-returns
 returns c =
     let kind = c .before .before in
-    hit 10 _ _ (ap not (or-next (told (c .before .is-copy .ensures ∙ ap isCopy (c .before .before .before .before .kind .ensures)) (not-true _ (c .if2 .taken))) (told (kind .before .is-full .ensures ∙ ap isFull (kind .before .before .kind .ensures)) (not-true _ (kind .if1 .taken)))))
+    hit 10 _ _ (ap not (or-next (told (c .before .is-copy .ensures ∙ ap isCopy (same-kind (c .before .before .before .before .kind .ensures))) (not-true _ (c .if2 .taken))) (told (kind .before .is-full .ensures ∙ ap isFull (same-kind (kind .before .before .kind .ensures))) (not-true _ (kind .if1 .taken)))))
 
 leaves-title-key-requires : tie.Need-leaves-title-key-requires
 leaves-title-key-requires c κs = search needs
@@ -32,17 +34,17 @@ returns-2 : tie.Need-returns-2
 returns-2 c =
     let copy = c .before .before in
     let kind = copy .before .before in
-    skip 10 _ _ _ (ap not (or-first _ (told (copy .before .is-copy .ensures ∙ ap isCopy (copy .before .before .before .before .kind .ensures)) (not-false _ (copy .if2 .left)))))
-    (skip 11 _ _ _ (and-first _ (told (kind .before .is-full .ensures ∙ ap isFull (kind .before .before .kind .ensures)) (not-true _ (kind .if1 .taken))))
+    skip 10 _ _ _ (ap not (or-first _ (told (copy .before .is-copy .ensures ∙ ap isCopy (same-kind (copy .before .before .before .before .kind .ensures))) (not-false _ (copy .if2 .left)))))
+    (skip 11 _ _ _ (and-first _ (told (kind .before .is-full .ensures ∙ ap isFull (same-kind (kind .before .before .kind .ensures))) (not-true _ (kind .if1 .taken))))
     (hit 16 _ _ (or-first _ (told (c .before .leaves-title-key .ensures) (c .if3 .taken)))))
 
 returns-3 : tie.Need-returns-3
 returns-3 c =
     let copy = c .before .before in
     let kind = copy .before .before in
-    skip 10 _ _ _ (ap not (or-first _ (told (copy .before .is-copy .ensures ∙ ap isCopy (copy .before .before .before .before .kind .ensures)) (not-false _ (copy .if2 .left)))))
-    (skip 11 _ _ _ (and-first _ (told (kind .before .is-full .ensures ∙ ap isFull (kind .before .before .kind .ensures)) (not-true _ (kind .if1 .taken))))
-    (skip 16 _ _ _ (or-next (told (c .before .leaves-title-key .ensures) (c .if3 .left)) (and-first _ (told (kind .before .is-full .ensures ∙ ap isFull (kind .before .before .kind .ensures)) (not-true _ (kind .if1 .taken))))) end))
+    skip 10 _ _ _ (ap not (or-first _ (told (copy .before .is-copy .ensures ∙ ap isCopy (same-kind (copy .before .before .before .before .kind .ensures))) (not-false _ (copy .if2 .left)))))
+    (skip 11 _ _ _ (and-first _ (told (kind .before .is-full .ensures ∙ ap isFull (same-kind (kind .before .before .kind .ensures))) (not-true _ (kind .if1 .taken))))
+    (skip 16 _ _ _ (or-next (told (c .before .leaves-title-key .ensures) (c .if3 .left)) (and-first _ (told (kind .before .is-full .ensures ∙ ap isFull (same-kind (kind .before .before .kind .ensures))) (not-true _ (kind .if1 .taken))))) end))
 
 content-requires : tie.Need-content-requires
 content-requires c κs = search needs
@@ -56,8 +58,8 @@ is-away-requires c κs = search needs
 returns-4 : tie.Need-returns-4
 returns-4 c =
     let kind = c .before .before .before .before in
-    skip 10 _ _ _ (ap not (or-second (isCopy (kindOf (titleAt (kind .before .before .before .before .before .before .args .titles .now) (kind .before .before .before .before .before .before .args .entry .0)) (ruleAt (kind .before .before .before .before .before .before .args .rules .now) (kind .before .before .before .before .before .before .args .entry .0)))) (told (kind .before .is-full .ensures ∙ ap isFull (kind .before .before .kind .ensures)) (not-false _ (kind .if1 .left)))))
-    (hit 11 _ _ (and-next (told (kind .before .is-full .ensures ∙ ap isFull (kind .before .before .kind .ensures)) (not-false _ (kind .if1 .left))) (denied (c .before .is-away .ensures ∙ ap isAway (c .before .before .state .ensures ∙ ap (stateIn _) (c .before .before .before .content .ensures))) (c .if4 .taken))))
+    skip 10 _ _ _ (ap not (or-second (isCopy (kindOf (titleAt (kind .before .before .before .before .before .before .args .titles .now) (kind .before .before .before .before .before .before .args .entry .0)) (ruleAt (kind .before .before .before .before .before .before .args .rules .now) (kind .before .before .before .before .before .before .args .entry .0)))) (told (kind .before .is-full .ensures ∙ ap isFull (same-kind (kind .before .before .kind .ensures))) (not-false _ (kind .if1 .left)))))
+    (hit 11 _ _ (and-next (told (kind .before .is-full .ensures ∙ ap isFull (same-kind (kind .before .before .kind .ensures))) (not-false _ (kind .if1 .left))) (denied (c .before .is-away .ensures ∙ ap isAway (same-state (c .before .before .state .ensures) ∙ ap (stateIn _) (c .before .before .before .content .ensures))) (c .if4 .taken))))
 
 leaves-title-key-requires-2 : tie.Need-leaves-title-key-requires-2
 leaves-title-key-requires-2 c κs = search needs
@@ -66,8 +68,8 @@ returns-5 : tie.Need-returns-5
 returns-5 c =
     let row = c .before .before in
     let kind = row .before .before .before .before in
-    skip 10 _ _ _ (ap not (or-second (isCopy (kindOf (titleAt (kind .before .before .before .before .before .before .args .titles .now) (kind .before .before .before .before .before .before .args .entry .0)) (ruleAt (kind .before .before .before .before .before .before .args .rules .now) (kind .before .before .before .before .before .before .args .entry .0)))) (told (kind .before .is-full .ensures ∙ ap isFull (kind .before .before .kind .ensures)) (not-false _ (kind .if1 .left)))))
-    (skip 11 _ _ _ (and-next (told (kind .before .is-full .ensures ∙ ap isFull (kind .before .before .kind .ensures)) (not-false _ (kind .if1 .left))) (denied (row .before .is-away .ensures ∙ ap isAway (row .before .before .state .ensures ∙ ap (stateIn _) (row .before .before .before .content .ensures))) (row .if4 .left)))
+    skip 10 _ _ _ (ap not (or-second (isCopy (kindOf (titleAt (kind .before .before .before .before .before .before .args .titles .now) (kind .before .before .before .before .before .before .args .entry .0)) (ruleAt (kind .before .before .before .before .before .before .args .rules .now) (kind .before .before .before .before .before .before .args .entry .0)))) (told (kind .before .is-full .ensures ∙ ap isFull (same-kind (kind .before .before .kind .ensures))) (not-false _ (kind .if1 .left)))))
+    (skip 11 _ _ _ (and-next (told (kind .before .is-full .ensures ∙ ap isFull (same-kind (kind .before .before .kind .ensures))) (not-false _ (kind .if1 .left))) (denied (row .before .is-away .ensures ∙ ap isAway (same-state (row .before .before .state .ensures) ∙ ap (stateIn _) (row .before .before .before .content .ensures))) (row .if4 .left)))
     (hit 16 _ _ (or-first _ (told (c .before .leaves-title-key2 .ensures) (c .if5 .taken)))))
 
 leaves-sti-key-requires : tie.Need-leaves-sti-key-requires
@@ -78,18 +80,18 @@ returns-6 c =
     let key = c .before .before in
     let row = key .before .before in
     let kind = row .before .before .before .before in
-    skip 10 _ _ _ (ap not (or-second (isCopy (kindOf (titleAt (kind .before .before .before .before .before .before .args .titles .now) (kind .before .before .before .before .before .before .args .entry .0)) (ruleAt (kind .before .before .before .before .before .before .args .rules .now) (kind .before .before .before .before .before .before .args .entry .0)))) (told (kind .before .is-full .ensures ∙ ap isFull (kind .before .before .kind .ensures)) (not-false _ (kind .if1 .left)))))
-    (skip 11 _ _ _ (and-next (told (kind .before .is-full .ensures ∙ ap isFull (kind .before .before .kind .ensures)) (not-false _ (kind .if1 .left))) (denied (row .before .is-away .ensures ∙ ap isAway (row .before .before .state .ensures ∙ ap (stateIn _) (row .before .before .before .content .ensures))) (row .if4 .left)))
-    (hit 16 _ _ (or-next (told (key .before .leaves-title-key2 .ensures) (key .if5 .left)) (and-next (told (kind .before .is-full .ensures ∙ ap isFull (kind .before .before .kind .ensures)) (not-false _ (kind .if1 .left))) (told (c .before .leaves-sti-key .ensures) (c .if6 .taken))))))
+    skip 10 _ _ _ (ap not (or-second (isCopy (kindOf (titleAt (kind .before .before .before .before .before .before .args .titles .now) (kind .before .before .before .before .before .before .args .entry .0)) (ruleAt (kind .before .before .before .before .before .before .args .rules .now) (kind .before .before .before .before .before .before .args .entry .0)))) (told (kind .before .is-full .ensures ∙ ap isFull (same-kind (kind .before .before .kind .ensures))) (not-false _ (kind .if1 .left)))))
+    (skip 11 _ _ _ (and-next (told (kind .before .is-full .ensures ∙ ap isFull (same-kind (kind .before .before .kind .ensures))) (not-false _ (kind .if1 .left))) (denied (row .before .is-away .ensures ∙ ap isAway (same-state (row .before .before .state .ensures) ∙ ap (stateIn _) (row .before .before .before .content .ensures))) (row .if4 .left)))
+    (hit 16 _ _ (or-next (told (key .before .leaves-title-key2 .ensures) (key .if5 .left)) (and-next (told (kind .before .is-full .ensures ∙ ap isFull (same-kind (kind .before .before .kind .ensures))) (not-false _ (kind .if1 .left))) (told (c .before .leaves-sti-key .ensures) (c .if6 .taken))))))
 
 returns-7 : tie.Need-returns-7
 returns-7 c =
     let key = c .before .before in
     let row = key .before .before in
     let kind = row .before .before .before .before in
-    skip 10 _ _ _ (ap not (or-second (isCopy (kindOf (titleAt (kind .before .before .before .before .before .before .args .titles .now) (kind .before .before .before .before .before .before .args .entry .0)) (ruleAt (kind .before .before .before .before .before .before .args .rules .now) (kind .before .before .before .before .before .before .args .entry .0)))) (told (kind .before .is-full .ensures ∙ ap isFull (kind .before .before .kind .ensures)) (not-false _ (kind .if1 .left)))))
-    (skip 11 _ _ _ (and-next (told (kind .before .is-full .ensures ∙ ap isFull (kind .before .before .kind .ensures)) (not-false _ (kind .if1 .left))) (denied (row .before .is-away .ensures ∙ ap isAway (row .before .before .state .ensures ∙ ap (stateIn _) (row .before .before .before .content .ensures))) (row .if4 .left)))
-    (skip 16 _ _ _ (or-next (told (key .before .leaves-title-key2 .ensures) (key .if5 .left)) (and-next (told (kind .before .is-full .ensures ∙ ap isFull (kind .before .before .kind .ensures)) (not-false _ (kind .if1 .left))) (told (c .before .leaves-sti-key .ensures) (c .if6 .left)))) end))
+    skip 10 _ _ _ (ap not (or-second (isCopy (kindOf (titleAt (kind .before .before .before .before .before .before .args .titles .now) (kind .before .before .before .before .before .before .args .entry .0)) (ruleAt (kind .before .before .before .before .before .before .args .rules .now) (kind .before .before .before .before .before .before .args .entry .0)))) (told (kind .before .is-full .ensures ∙ ap isFull (same-kind (kind .before .before .kind .ensures))) (not-false _ (kind .if1 .left)))))
+    (skip 11 _ _ _ (and-next (told (kind .before .is-full .ensures ∙ ap isFull (same-kind (kind .before .before .kind .ensures))) (not-false _ (kind .if1 .left))) (denied (row .before .is-away .ensures ∙ ap isAway (same-state (row .before .before .state .ensures) ∙ ap (stateIn _) (row .before .before .before .content .ensures))) (row .if4 .left)))
+    (skip 16 _ _ _ (or-next (told (key .before .leaves-title-key2 .ensures) (key .if5 .left)) (and-next (told (kind .before .is-full .ensures ∙ ap isFull (same-kind (kind .before .before .kind .ensures))) (not-false _ (kind .if1 .left))) (told (c .before .leaves-sti-key .ensures) (c .if6 .left)))) end))
 
 pub state-spec : {M : Type 1} → statement M
 state-spec =

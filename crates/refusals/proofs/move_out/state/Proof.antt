@@ -2,6 +2,8 @@
 -- Assumes nothing.
 use borrow.Author.Needs.{needs}
 use mathlib.Core.Path.{ap, _∙_}
+use Rattle.formats.proofs.entry.Laws.{same-kind}
+use Rattle.formats.proofs.row.Laws.{same-state}
 use Rattle.calls.specs.Buffers.{stateIn, isFull, isAway}
 use Rattle.calls.specs.Conditions.{mayNotMove}
 use Rattle.calls.proofs.Refusals.{hit, skip, end}
@@ -17,7 +19,7 @@ is-full-requires c κs = search needs
 
 returns : tie.Need-returns
 returns c =
-    hit 10 _ _ (denied (c .before .is-full .ensures ∙ ap isFull (c .before .before .kind .ensures)) (c .if1 .taken))
+    hit 10 _ _ (denied (c .before .is-full .ensures ∙ ap isFull (same-kind (c .before .before .kind .ensures))) (c .if1 .taken))
 
 content-requires : tie.Need-content-requires
 content-requires c κs = search needs
@@ -31,8 +33,8 @@ is-away-requires c κs = search needs
 returns-2 : tie.Need-returns-2
 returns-2 c =
     let kind = c .before .before .before .before in
-    skip 10 _ _ _ (denied (kind .before .is-full .ensures ∙ ap isFull (kind .before .before .kind .ensures)) (kind .if1 .left))
-    (hit 11 _ _ (denied (c .before .is-away .ensures ∙ ap isAway (c .before .before .state .ensures ∙ ap (stateIn _) (c .before .before .before .content .ensures))) (c .if2 .taken)))
+    skip 10 _ _ _ (denied (kind .before .is-full .ensures ∙ ap isFull (same-kind (kind .before .before .kind .ensures))) (kind .if1 .left))
+    (hit 11 _ _ (denied (c .before .is-away .ensures ∙ ap isAway (same-state (c .before .before .state .ensures) ∙ ap (stateIn _) (c .before .before .before .content .ensures))) (c .if2 .taken)))
 
 may-not-move-requires : tie.Need-may-not-move-requires
 may-not-move-requires c κs = search needs
@@ -41,8 +43,8 @@ returns-3 : tie.Need-returns-3
 returns-3 c =
     let row = c .before .before in
     let kind = row .before .before .before .before in
-    skip 10 _ _ _ (denied (kind .before .is-full .ensures ∙ ap isFull (kind .before .before .kind .ensures)) (kind .if1 .left))
-    (skip 11 _ _ _ (denied (row .before .is-away .ensures ∙ ap isAway (row .before .before .state .ensures ∙ ap (stateIn _) (row .before .before .before .content .ensures))) (row .if2 .left))
+    skip 10 _ _ _ (denied (kind .before .is-full .ensures ∙ ap isFull (same-kind (kind .before .before .kind .ensures))) (kind .if1 .left))
+    (skip 11 _ _ _ (denied (row .before .is-away .ensures ∙ ap isAway (same-state (row .before .before .state .ensures) ∙ ap (stateIn _) (row .before .before .before .content .ensures))) (row .if2 .left))
     (hit 12 _ _ (told (c .before .may-not-move .ensures _) (c .if3 .taken))))
 
 hash-requires : tie.Need-hash-requires
@@ -53,8 +55,8 @@ returns-4 c =
     let facts = c .before .before in
     let row = facts .before .before in
     let kind = row .before .before .before .before in
-    skip 10 _ _ _ (denied (kind .before .is-full .ensures ∙ ap isFull (kind .before .before .kind .ensures)) (kind .if1 .left))
-    (skip 11 _ _ _ (denied (row .before .is-away .ensures ∙ ap isAway (row .before .before .state .ensures ∙ ap (stateIn _) (row .before .before .before .content .ensures))) (row .if2 .left))
+    skip 10 _ _ _ (denied (kind .before .is-full .ensures ∙ ap isFull (same-kind (kind .before .before .kind .ensures))) (kind .if1 .left))
+    (skip 11 _ _ _ (denied (row .before .is-away .ensures ∙ ap isAway (same-state (row .before .before .state .ensures) ∙ ap (stateIn _) (row .before .before .before .content .ensures))) (row .if2 .left))
     (skip 12 _ _ _ (told (facts .before .may-not-move .ensures _) (facts .if3 .left))
     (hit 13 _ _ (hash-other (c .before .hash .ensures) (c .if4 .taken)))))
 
@@ -67,8 +69,8 @@ returns-5 c =
     let facts = hash .before .before in
     let row = facts .before .before in
     let kind = row .before .before .before .before in
-    skip 10 _ _ _ (denied (kind .before .is-full .ensures ∙ ap isFull (kind .before .before .kind .ensures)) (kind .if1 .left))
-    (skip 11 _ _ _ (denied (row .before .is-away .ensures ∙ ap isAway (row .before .before .state .ensures ∙ ap (stateIn _) (row .before .before .before .content .ensures))) (row .if2 .left))
+    skip 10 _ _ _ (denied (kind .before .is-full .ensures ∙ ap isFull (same-kind (kind .before .before .kind .ensures))) (kind .if1 .left))
+    (skip 11 _ _ _ (denied (row .before .is-away .ensures ∙ ap isAway (same-state (row .before .before .state .ensures) ∙ ap (stateIn _) (row .before .before .before .content .ensures))) (row .if2 .left))
     (skip 12 _ _ _ (told (facts .before .may-not-move .ensures _) (facts .if3 .left))
     (skip 13 _ _ _ (hash-same (hash .before .hash .ensures) (hash .if4 .left))
     (hit 16 _ _ (or-first _ (told (c .before .leaves-title-key .ensures) (c .if5 .taken)))))))
@@ -83,8 +85,8 @@ returns-6 c =
     let facts = hash .before .before in
     let row = facts .before .before in
     let kind = row .before .before .before .before in
-    skip 10 _ _ _ (denied (kind .before .is-full .ensures ∙ ap isFull (kind .before .before .kind .ensures)) (kind .if1 .left))
-    (skip 11 _ _ _ (denied (row .before .is-away .ensures ∙ ap isAway (row .before .before .state .ensures ∙ ap (stateIn _) (row .before .before .before .content .ensures))) (row .if2 .left))
+    skip 10 _ _ _ (denied (kind .before .is-full .ensures ∙ ap isFull (same-kind (kind .before .before .kind .ensures))) (kind .if1 .left))
+    (skip 11 _ _ _ (denied (row .before .is-away .ensures ∙ ap isAway (same-state (row .before .before .state .ensures) ∙ ap (stateIn _) (row .before .before .before .content .ensures))) (row .if2 .left))
     (skip 12 _ _ _ (told (facts .before .may-not-move .ensures _) (facts .if3 .left))
     (skip 13 _ _ _ (hash-same (hash .before .hash .ensures) (hash .if4 .left))
     (hit 16 _ _ (or-next (told (key .before .leaves-title-key .ensures) (key .if5 .left)) (told (c .before .leaves-sti-key .ensures) (c .if6 .taken)))))))
@@ -96,8 +98,8 @@ returns-7 c =
     let facts = hash .before .before in
     let row = facts .before .before in
     let kind = row .before .before .before .before in
-    skip 10 _ _ _ (denied (kind .before .is-full .ensures ∙ ap isFull (kind .before .before .kind .ensures)) (kind .if1 .left))
-    (skip 11 _ _ _ (denied (row .before .is-away .ensures ∙ ap isAway (row .before .before .state .ensures ∙ ap (stateIn _) (row .before .before .before .content .ensures))) (row .if2 .left))
+    skip 10 _ _ _ (denied (kind .before .is-full .ensures ∙ ap isFull (same-kind (kind .before .before .kind .ensures))) (kind .if1 .left))
+    (skip 11 _ _ _ (denied (row .before .is-away .ensures ∙ ap isAway (same-state (row .before .before .state .ensures) ∙ ap (stateIn _) (row .before .before .before .content .ensures))) (row .if2 .left))
     (skip 12 _ _ _ (told (facts .before .may-not-move .ensures _) (facts .if3 .left))
     (skip 13 _ _ _ (hash-same (hash .before .hash .ensures) (hash .if4 .left))
     (skip 16 _ _ _ (or-next (told (key .before .leaves-title-key .ensures) (key .if5 .left)) (told (c .before .leaves-sti-key .ensures) (c .if6 .left))) end))))

@@ -2,6 +2,8 @@
 -- Assumes nothing.
 use borrow.Author.Needs.{needs}
 use mathlib.Core.Path.{ap, _∙_}
+use Rattle.formats.proofs.entry.Laws.{same-kind}
+use Rattle.formats.proofs.row.Laws.{same-state}
 use Rattle.calls.specs.Buffers.{isFree, isEmpty}
 use Rattle.calls.proofs.Refusals.{hit, skip, end}
 use Rattle.refusals.proofs.Stages.{denied}
@@ -16,7 +18,7 @@ is-free-requires c κs = search needs
 
 returns : tie.Need-returns
 returns c =
-    hit 10 _ _ (denied (c .before .is-free .ensures ∙ ap isFree (c .before .before .kind .ensures)) (c .if1 .taken))
+    hit 10 _ _ (denied (c .before .is-free .ensures ∙ ap isFree (same-kind (c .before .before .kind .ensures))) (c .if1 .taken))
 
 state-requires : tie.Need-state-requires
 state-requires c κs = search needs
@@ -27,14 +29,14 @@ is-empty-requires c κs = search needs
 returns-2 : tie.Need-returns-2
 returns-2 c =
     let kind = c .before .before .before in
-    skip 10 _ _ _ (denied (kind .before .is-free .ensures ∙ ap isFree (kind .before .before .kind .ensures)) (kind .if1 .left))
-    (hit 11 _ _ (denied (c .before .is-empty .ensures ∙ ap isEmpty (c .before .before .state .ensures)) (c .if2 .taken)))
+    skip 10 _ _ _ (denied (kind .before .is-free .ensures ∙ ap isFree (same-kind (kind .before .before .kind .ensures))) (kind .if1 .left))
+    (hit 11 _ _ (denied (c .before .is-empty .ensures ∙ ap isEmpty (same-state (c .before .before .state .ensures))) (c .if2 .taken)))
 
 returns-3 : tie.Need-returns-3
 returns-3 c =
     let kind = c .before .before .before in
-    skip 10 _ _ _ (denied (kind .before .is-free .ensures ∙ ap isFree (kind .before .before .kind .ensures)) (kind .if1 .left))
-    (skip 11 _ _ _ (denied (c .before .is-empty .ensures ∙ ap isEmpty (c .before .before .state .ensures)) (c .if2 .left)) end)
+    skip 10 _ _ _ (denied (kind .before .is-free .ensures ∙ ap isFree (same-kind (kind .before .before .kind .ensures))) (kind .if1 .left))
+    (skip 11 _ _ _ (denied (c .before .is-empty .ensures ∙ ap isEmpty (same-state (c .before .before .state .ensures))) (c .if2 .left)) end)
 
 pub state-spec : {M : Type 1} → statement M
 state-spec =

@@ -5,6 +5,7 @@ use mathlib.Core.Path.{sym, ap, _∙_}
 use native.Mathlib.Omega.{arith}
 use Rattle.formats.specs.Head.{ledgerPasses}
 use Rattle.formats.proofs.Tests.{passed}
+use Rattle.formats.proofs.row.Laws.{same-state}
 use Rattle.calls.specs.Buffers.{isEmpty}
 use Rattle.calls.specs.Conditions.{conditions}
 use Rattle.calls.specs.Perform.{refusal}
@@ -42,11 +43,11 @@ is-empty-requires c κs = search needs
 
 returns-4 : tie.Need-returns-4
 unfolding refusal conditions
-returns-4 c titles rules = skip 4 _ _ _ (denied (c .before .before .before .before .before .before .before .before .is-numbered .ensures) (c .before .before .before .before .before .before .before .if1 .left)) (skip 6 _ _ _ (denied (c .before .before .before .before .before .before .are-facts .ensures) (c .before .before .before .before .before .if2 .left)) (skip 7 _ _ _ (holds-not (passed (ledgerPasses (c .before .before .before .before .before .before .before .before .before .before .args .ledger .now)) 7 (omega arith) (sym (c .before .before .before .before .check-ledger .ensures) ∙ c .before .before .before .if3 .left))) (hit 11 _ _ (denied (c .before .is-empty .ensures ∙ ap isEmpty (c .before .before .state .ensures)) (c .if4 .taken)))))
+returns-4 c titles rules = skip 4 _ _ _ (denied (c .before .before .before .before .before .before .before .before .is-numbered .ensures) (c .before .before .before .before .before .before .before .if1 .left)) (skip 6 _ _ _ (denied (c .before .before .before .before .before .before .are-facts .ensures) (c .before .before .before .before .before .if2 .left)) (skip 7 _ _ _ (holds-not (passed (ledgerPasses (c .before .before .before .before .before .before .before .before .before .before .args .ledger .now)) 7 (omega arith) (sym (c .before .before .before .before .check-ledger .ensures) ∙ c .before .before .before .if3 .left))) (hit 11 _ _ (denied (c .before .is-empty .ensures ∙ ap isEmpty (same-state (c .before .before .state .ensures))) (c .if4 .taken)))))
 
 returns-5 : tie.Need-returns-5
 unfolding refusal conditions
-returns-5 c titles rules = skip 4 _ _ _ (denied (c .before .before .before .before .before .before .before .before .is-numbered .ensures) (c .before .before .before .before .before .before .before .if1 .left)) (skip 6 _ _ _ (denied (c .before .before .before .before .before .before .are-facts .ensures) (c .before .before .before .before .before .if2 .left)) (skip 7 _ _ _ (holds-not (passed (ledgerPasses (c .before .before .before .before .before .before .before .before .before .before .args .ledger .now)) 7 (omega arith) (sym (c .before .before .before .before .check-ledger .ensures) ∙ c .before .before .before .if3 .left))) (skip 11 _ _ _ (denied (c .before .is-empty .ensures ∙ ap isEmpty (c .before .before .state .ensures)) (c .if4 .left)) end)))
+returns-5 c titles rules = skip 4 _ _ _ (denied (c .before .before .before .before .before .before .before .before .is-numbered .ensures) (c .before .before .before .before .before .before .before .if1 .left)) (skip 6 _ _ _ (denied (c .before .before .before .before .before .before .are-facts .ensures) (c .before .before .before .before .before .if2 .left)) (skip 7 _ _ _ (holds-not (passed (ledgerPasses (c .before .before .before .before .before .before .before .before .before .before .args .ledger .now)) 7 (omega arith) (sym (c .before .before .before .before .check-ledger .ensures) ∙ c .before .before .before .if3 .left))) (skip 11 _ _ _ (denied (c .before .is-empty .ensures ∙ ap isEmpty (same-state (c .before .before .state .ensures))) (c .if4 .left)) end)))
 
 pub refusal-spec : {M : Type 1} → statement M
 refusal-spec =

@@ -1,12 +1,14 @@
 -- `tables::ledger::state` meets its contract.
 -- Assumes nothing.
+use Prim.Native.Nat.{ℕ}
 use mathlib.Core.Path.{ap, _∙_}
+use mathlib.Core.List.{List}
 use native.Mathlib.Omega.{arith}
 use denote.Ref.{now}
 use borrow.Author.Needs.{needs}
 use borrow.Author.Tests.{le-leb, lt-leb}
 use Rattle.formats.specs.Head.{rowsOf}
-use Rattle.formats.specs.Row.{stateOf}
+use Rattle.formats.specs.Row.{stateAnswer, stateOf}
 use Rattle.calls.specs.Buffers.{stateIn}
 use Rattle.tables.proofs.Rows.{rows-below}
 use Rattle.tables.proofs.ledger.state.Statement.{statement}
@@ -43,7 +45,7 @@ returns-3 c =
     let a = c .before .before .before .before .before .before .args in
     let e = c .before .before .before .rows .ensures in
     simp (le-leb 1 (a .content .0) (omega arith), le-leb (a .content .0) (rowsOf (now (a .ledger))) (omega arith))
-    (c .state .ensures ∙ ap stateOf (c .before .part .ensures))
+    (c .state .ensures ∙ ap (λ (l : List ℕ). stateAnswer (stateOf l)) (c .before .part .ensures))
 
 pub state-spec : {M : Type 1} → statement M
 state-spec =

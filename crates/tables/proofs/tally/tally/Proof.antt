@@ -3,7 +3,7 @@
 use native.Mathlib.Omega.{arith}
 use borrow.Author.Needs.{needs}
 use Rattle.calls.proofs.Passed.{numbered-within, within-numbered}
-use Rattle.tables.proofs.tally.Laws.{titles-passed, rules-passed, content-refused, titles-refused, rules-refused, tallied}
+use Rattle.tables.proofs.tally.Laws.{titles-passed, rules-passed, content-refused, titles-refused, rules-refused, counted}
 use Rattle.tables.proofs.tally.tally.Statement.{statement}
 use Rattle.tables.proofs.tally.tally.Tie as tie
 
@@ -43,7 +43,7 @@ returns-5 c =
     let y = c .before in
     let x = y .before .before in
     let id = x .before .before .before .before .before .before .args .content .0 in
-    tallied _ _ _ (within-numbered id (omega arith) (omega arith)) (titles-passed _ (x .before .check-titles .ensures) (x .if3 .left))
+    counted _ _ _ (within-numbered id (omega arith) (omega arith)) (titles-passed _ (x .before .check-titles .ensures) (x .if3 .left))
     (rules-passed _ (y .before .check-rules .ensures) (y .if4 .left)) (c .count .ensures)
 
 pub tally-spec : {M : Type 1} → statement M
