@@ -1,10 +1,9 @@
 -- Every call ends in bounds: the buffers keep their lengths, and what holds bytes holds bytes.
 -- Assumes nothing.
 use Prim.Native.Nat.{ℕ, _*_}
-use mathlib.Core.Path.{_≡_, sym, subst}
+use mathlib.Core.Path.{_≡_}
 use mathlib.Core.List.{List}
 use mathlib.Core.Bool.{Bool, true, false, cond}
-use native.Mathlib.Decide.{ℕ-discrete}
 use lib.Dec.{lit<}
 use Rattle.formats.specs.Bytes.{Bytes}
 use Rattle.formats.specs.Part.{put}
@@ -24,7 +23,7 @@ use Rattle.calls.specs.Count.{oneLess, oneMore}
 use Rattle.calls.specs.Buffers.{Buffers, rowAt, titleAt, ruleAt, rowFacts, kindAt, contentAt, factsAt, isFull, withRow}
 use Rattle.calls.specs.Effect.{afterMove, writeEntry, wipeTitle, wipeEntry, effect}
 use Rattle.calls.specs.Perform.{perform, AreBytes, InBounds, Demand1}
-use Rattle.calls.proofs.Refusals.{unchanged, carried-out, call-refused-first}
+use Rattle.calls.proofs.Refusals.{either-way, call-refused-first}
 use Rattle.calls.proofs.Untouched.{untouched}
 
 module _ (b : Buffers) (bytes : AreBytes b) where
@@ -85,14 +84,6 @@ module _ (b : Buffers) (bytes : AreBytes b) where
           record { ledger = row (contentAt b (j .0)) (plainRow 3) (plain-bytes 3 (lit< tt)); titles = title-wiped (j .0) (f .f1); rules = rule-wiped (j .0) f }
       by false = record { ledger = bytes .ledger; titles = title-wiped (j .0) (f .f1); rules = bytes .rules }
 
--- what holds bytes holds bytes after a call, done or refused
-stay-bytes : (k : Request) (b : Buffers) → AreBytes b → AreBytes (perform k b .buffers)
-stay-bytes k b bytes =
-    elim (ℕ-discrete (perform k b .answer) 0) [
-      | yes zero ↦ subst AreBytes (sym (carried-out k b zero)) (effect-bytes b bytes k)
-      | no some ↦ subst AreBytes (sym (unchanged k b some)) bytes
-    ]
-
 -- Demand 1: every call, done or refused, "ends in bounds"
 pub in-bounds : (k : Request) (b : Buffers) → InBounds b (perform k b .buffers)
 in-bounds k b =
@@ -101,7 +92,7 @@ in-bounds k b =
       ledger-length = u .rows .same-length;
       titles-length = u .titles .same-length;
       rules-length = u .rules .same-length;
-      stay-bytes = stay-bytes k b;
+      stay-bytes = λ bytes. either-way AreBytes (call-refused-first k b) bytes (λ none. effect-bytes b bytes k);
     }
 
 -- DEMAND 1

@@ -247,10 +247,14 @@ met (Delete j f) b t =
       title-key = eqb-false _ _ first-key;
     }
 
+-- where none holds, the needs are met
+pub needs-where : (k : Request) (b : Buffers) → NoneHolds (conditions k b) → Needs k b
+unfolding conditions
+needs-where k b none = met k b (λ n. unmet n (conditions k b) none)
+
 -- a call that is done has its needs met
 pub needs-met : (k : Request) (b : Buffers) → perform k b .answer ≡ 0 → Needs k b
-unfolding conditions
-needs-met k b done = met k b (λ n. unmet n (conditions k b) (none-holds k b done))
+needs-met k b done = needs-where k b (none-holds k b done)
 
 -- the tests of a delete: of its kind, of its row and of both keys
 module _ (b : Buffers) (j : ℕ) (f : Fillers) where

@@ -1,10 +1,11 @@
 -- The laws of the first condition that holds, and demand 1: of whatever answers it, and of every call.
 -- Assumes nothing.
 use Prim.Native.Nat.{ℕ}
-use mathlib.Core.Path.{_≡_, refl, sym, ap, _∙_}
+use mathlib.Core.Path.{_≡_, refl, sym, ap, subst, _∙_}
 use mathlib.Core.Logic.{_≢_, inl, inr}
 use mathlib.Core.List.{List, [], _∷_, _++_}
 use mathlib.Core.Bool.{Bool, true, false, not, _&&_, _||_, cond, true≢false}
+use native.Mathlib.Decide.{ℕ-discrete}
 use lib.Dec.{eqb}
 use borrow.Author.Tests.{eq-eqb, ne-eqb, eqb-false, not-true}
 use Rattle.formats.specs.Refusal.{unless as answer}
@@ -178,6 +179,15 @@ refused-first cs {answer} {before} {after} {made} numbers refuses e left =
       only-accepted = λ zero. to-none cs refuses (sym e ∙ zero);
       carried-out = λ zero. left ∙ ap (λ (x : Bool). cond x made before) (eq-eqb answer 0 zero);
     }
+
+-- what holds of what was found, and of what is made where no condition holds, holds of what is left
+pub either-way : {A : Type 0} {numbers : List ℕ} {cs : List Condition} {answer : ℕ} {before after made : A} (P : A → Type 0)
+    → RefusedFirst A numbers cs answer before after made → P before → (NoneHolds cs → P made) → P after
+either-way {answer = answer} P d found made-so =
+    elim (ℕ-discrete answer 0) [
+      | yes zero ↦ subst P (sym (d .carried-out zero)) (made-so (d .only-accepted zero))
+      | no refused ↦ subst P (sym (d .unchanged refused)) found
+    ]
 
 -- THE CALLS
 

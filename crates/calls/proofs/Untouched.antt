@@ -1,13 +1,12 @@
 -- A call writes its own row and its own entry, and nothing else.
 -- Assumes nothing.
 use Prim.Native.Nat.{ℕ, _*_}
-use mathlib.Core.Path.{_≡_, refl, sym, ap, subst, _∙_}
+use mathlib.Core.Path.{_≡_, refl, sym, ap, _∙_}
 use mathlib.Core.Logic.{_≢_}
 use mathlib.Core.List.{List}
 use mathlib.Core.Option.{none, some}
 use mathlib.Core.Bool.{Bool, true, false, cond}
 use native.Mathlib.Omega.{arith}
-use native.Mathlib.Decide.{ℕ-discrete}
 use lib.ListN.{length}
 use Rattle.formats.specs.Part.{put}
 use Rattle.formats.specs.Half.{wiped}
@@ -29,8 +28,8 @@ use Rattle.calls.specs.Effect.{afterMove, effect}
 use Rattle.calls.specs.Perform.{perform}
 use Rattle.calls.specs.Needs.{HeadsPass, a-copy, a-holder, Needs}
 use Rattle.calls.specs.Untouched.{titleWritten, ruleWritten, SlotsKept, Untouched}
-use Rattle.calls.proofs.Refusals.{unchanged, carried-out}
-use Rattle.calls.proofs.Passed.{needs-met, OnCard, on-card, its-row, row-in}
+use Rattle.calls.proofs.Refusals.{either-way, call-refused-first}
+use Rattle.calls.proofs.Passed.{needs-where, OnCard, on-card, its-row, row-in}
 use Rattle.calls.proofs.Slots.{slots-kept, all-kept}
 use Rattle.calls.proofs.Views.{IsRow, row-inside, row-length, entry-length, entries-kept}
 
@@ -124,10 +123,9 @@ module _ (b : Buffers) where
 -- a call, done or refused, leaves everything but its own row and entry as it was
 pub untouched : (k : Request) (b : Buffers) → Untouched k b (perform k b .buffers)
 untouched k b =
-    elim (ℕ-discrete (perform k b .answer) 0) [
-      | yes zero ↦ subst (Untouched k b) (sym (carried-out k b zero)) (effect-keeps b k (needs-met k b zero))
-      | no refused ↦ subst (Untouched k b) (sym (unchanged k b refused)) (record { rows = all-kept 24 _ (b .ledger); titles = all-kept 16 _ (b .titles); rules = all-kept 32 _ (b .rules) })
-    ]
+    either-way (Untouched k b) (call-refused-first k b)
+    (record { rows = all-kept 24 _ (b .ledger); titles = all-kept 16 _ (b .titles); rules = all-kept 32 _ (b .rules) })
+    (λ none. effect-keeps b k (needs-where k b none))
 
 -- heads that passed pass after it
 pub heads-kept : (k : Request) (b : Buffers) → HeadsPass b → HeadsPass (perform k b .buffers)

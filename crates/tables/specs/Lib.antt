@@ -1,4 +1,5 @@
 pub mod Copies
 pub mod Format
 pub mod Tally
+pub mod Demand1
 pub mod History

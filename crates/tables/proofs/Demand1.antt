@@ -1,0 +1,79 @@
+-- Demand 1 of formatting and of the tally.
+-- Assumes nothing.
+use Prim.Native.Nat.{ℕ, _+_, _*_}
+use mathlib.Core.Path.{_≡_, refl, sym, ap, ap₂, _∙_}
+use mathlib.Core.List.{List, [], _∷_}
+use mathlib.Core.Bool.{Bool, true, false, not, cond}
+use native.Mathlib.Decide.{ℕ-discrete}
+use lib.Dec.{eqb}
+use lib.ListN.{length}
+use borrow.Author.Tests.{eq-eqb, ne-eqb, eqb-true, not-false}
+use Rattle.formats.specs.Answer.{Answer, done, refused}
+use Rattle.formats.specs.Head.{titlesPass, rulesPass, freshLedger, freshTitles, freshRules}
+use Rattle.formats.proofs.head.Laws.{fresh-ledger-length, fresh-titles-length, fresh-rules-length}
+use Rattle.calls.specs.Buffers.{copies, Within}
+use Rattle.calls.specs.Refusal.{first}
+use Rattle.tables.specs.Format.{ledgerConditions, ledgerFormatting, formattedLedger, cardConditions, cardFormatting, formattedTitles, formattedRules}
+use Rattle.tables.specs.Tally.{tallyConditions, tallyRefusal, tallied}
+use Rattle.tables.specs.Demand1.{FormatsLedger, FormatsCard, Tallies, Demand1}
+use Rattle.calls.proofs.Refusals.{refused-first, either-way, of-none, holds-not}
+use Rattle.calls.proofs.Passed.{numbers}
+
+-- a test of a length that does not refuse
+long : (n m : ℕ) → not (eqb n m) ≡ false → n ≡ m
+long n m e = eqb-true n m (not-false (eqb n m) e)
+
+formats-ledger : (ledger : List ℕ) (rows application : ℕ) → FormatsLedger ledger rows application
+unfolding ledgerFormatting formattedLedger
+formats-ledger ledger rows application =
+    let d = refused-first (ledgerConditions ledger rows) refl refl refl refl in
+    record {
+      refused-first = d;
+      done = λ in-range size. of-none (ledgerConditions ledger rows) (numbers in-range, (holds-not (eq-eqb _ _ size), tt));
+      same-length =
+          either-way (λ (l : List ℕ). length l ≡ length ledger) d refl
+          (λ none. fresh-ledger-length rows application ∙ sym (long (length ledger) (24 * (rows + 1)) (none .1 .0)));
+    }
+
+formats-card : (titles rules : List ℕ) (application : ℕ) → FormatsCard titles rules application
+unfolding cardFormatting formattedTitles formattedRules
+formats-card titles rules application =
+    let d = refused-first (cardConditions titles rules) refl refl refl (both-or-none (eqb (cardFormatting titles rules) 0)) in
+    record {
+      refused-first = d;
+      done = λ t r. of-none (cardConditions titles rules) (holds-not (eq-eqb _ _ t), (holds-not (eq-eqb _ _ r), tt));
+      same-lengths =
+          either-way (λ (p : List ℕ × List ℕ). (length (p .0) ≡ length titles) × (length (p .1) ≡ length rules)) d (refl, refl)
+          (λ none. (fresh-titles-length ∙ sym (long (length titles) 16000 (none .0)), fresh-rules-length application ∙ sym (long (length rules) 32000 (none .1 .0))));
+    }
+  where
+    both-or-none : (x : Bool)
+        → _≡_ {A = List ℕ × List ℕ} (cond x freshTitles titles, cond x (freshRules application) rules) (cond x (freshTitles, freshRules application) (titles, rules))
+    both-or-none true = refl
+    both-or-none false = refl
+
+-- the number and the values of an answer that has values where it is no refusal
+number-is : (n : ℕ) (values : List ℕ) → (cond (eqb n 0) (done values) (refused n)) .number ≡ n
+number-is n values = elim (ℕ-discrete n 0) [ yes zero ↦ rw (eq-eqb n 0 zero) (sym zero) | no other ↦ rw (ne-eqb n 0 other) ]
+
+values-are : (x : Bool) (n : ℕ) (values : List ℕ) → (cond x (done values) (refused n)) .values ≡ cond x values []
+values-are true n values = refl
+values-are false n values = refl
+
+tallies : (titles rules : List ℕ) (c : ℕ) → Tallies titles rules c
+unfolding tallied tallyRefusal
+tallies titles rules c =
+    let n = tallyRefusal titles rules c in
+    let values = copies c titles rules ∷ [] in
+    record {
+      refused-first =
+          refused-first (tallyConditions titles rules c) refl refl (number-is n values)
+          (values-are (eqb n 0) n values ∙ ap (λ (m : ℕ). cond (eqb m 0) values []) (sym (number-is n values)));
+      counted = λ in-range t r.
+          ap (λ (m : ℕ). cond (eqb m 0) (done values) (refused m))
+          (of-none (tallyConditions titles rules c) (numbers in-range, (holds-not t, (holds-not r, tt))));
+    }
+
+-- DEMAND 1
+pub demand-1 : Demand1
+demand-1 = record { ledger = formats-ledger; card = formats-card; tally = tallies }

@@ -1,0 +1,38 @@
+-- Demand 1 of formatting and of the tally, in the form in which it is said of the calls; and that they are done, in the paper's
+-- words.
+use Prim.Native.Nat.{ℕ, _+_, _*_}
+use mathlib.Core.Path.{_≡_}
+use mathlib.Core.List.{List, [], _∷_}
+use mathlib.Core.Bool.{true}
+use lib.ListN.{length}
+use Rattle.formats.specs.Answer.{done}
+use Rattle.formats.specs.Head.{titlesPass, rulesPass, freshLedger, freshTitles, freshRules}
+use Rattle.calls.specs.Buffers.{copies, Within}
+use Rattle.calls.specs.Refusal.{RefusedFirst}
+use Rattle.tables.specs.Format.{ledgerConditions, ledgerFormatting, formattedLedger, cardConditions, cardFormatting, formattedTitles, formattedRules}
+use Rattle.tables.specs.Tally.{tallyConditions, tallied}
+
+-- "Formatting tests 4, then exact lengths by 7, 8 and 9, and looks at no bytes.": a ledger
+pub record FormatsLedger (ledger : List ℕ) (rows application : ℕ) : Type 0 where
+  pub refused-first : RefusedFirst (List ℕ) (4 ∷ 7 ∷ []) (ledgerConditions ledger rows) (ledgerFormatting ledger rows)
+      ledger (formattedLedger ledger rows application) (freshLedger rows application)
+  pub done : Within 999 rows → length ledger ≡ 24 * (rows + 1) → ledgerFormatting ledger rows ≡ 0
+  pub same-length : length (formattedLedger ledger rows application) ≡ length ledger
+
+-- a card, both tables or none
+pub record FormatsCard (titles rules : List ℕ) (application : ℕ) : Type 0 where
+  pub refused-first : RefusedFirst (List ℕ × List ℕ) (8 ∷ 9 ∷ []) (cardConditions titles rules) (cardFormatting titles rules)
+      (titles, rules) (formattedTitles titles rules, formattedRules titles rules application) (freshTitles, freshRules application)
+  pub done : length titles ≡ 16000 → length rules ≡ 32000 → cardFormatting titles rules ≡ 0
+  pub same-lengths : (length (formattedTitles titles rules) ≡ length titles) × (length (formattedRules titles rules application) ≡ length rules)
+
+-- the tally: a refusal has no value
+pub record Tallies (titles rules : List ℕ) (c : ℕ) : Type 0 where
+  pub refused-first : RefusedFirst (List ℕ) (4 ∷ 8 ∷ 9 ∷ []) (tallyConditions titles rules c) (tallied titles rules c .number)
+      [] (tallied titles rules c .values) (copies c titles rules ∷ [])
+  pub counted : Within 999 c → titlesPass titles ≡ true → rulesPass rules ≡ true → tallied titles rules c ≡ done (copies c titles rules ∷ [])
+
+pub record Demand1 : Type 0 where
+  pub ledger : (ledger : List ℕ) (rows application : ℕ) → FormatsLedger ledger rows application
+  pub card : (titles rules : List ℕ) (application : ℕ) → FormatsCard titles rules application
+  pub tally : (titles rules : List ℕ) (c : ℕ) → Tallies titles rules c
