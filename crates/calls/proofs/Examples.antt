@@ -15,7 +15,7 @@ use Rattle.formats.specs.Half.{halfBytes, flagOf, usableOf, idOf}
 use Rattle.formats.specs.Title.{cciOf, titleHalf}
 use Rattle.formats.specs.Entry.{kindOf}
 use Rattle.formats.specs.Head.{rulesPass, rulesApplication, ledgerApplication}
-use Rattle.requests.specs.Number.{groupsIn, groups, readFrom, readNumber}
+use Rattle.requests.specs.Number.{groupsIn, groups, readGroups, exceeds, readNumber}
 use Rattle.requests.specs.Request.{kindOf as callOf, numbers, written, readRequest, readArguments, schema, requestOf}
 use Rattle.formats.specs.declared.facts.Facts.{Facts}
 use Rattle.formats.specs.declared.facts.ContentId.{ContentId}
@@ -43,19 +43,19 @@ use Rattle.calls.proofs.Passed.{passed}
 use Rattle.calls.proofs.Done.{check-in-leaves, move-out-leaves, move-in-leaves}
 
 example-1 : E1
-unfolding groups groupsIn readNumber readFrom
+unfolding groups groupsIn readNumber readGroups exceeds
 example-1 = ((refl, refl), (refl, refl), (refl, refl))
 
 example-2 : E2
-unfolding readNumber readFrom
+unfolding readNumber readGroups exceeds
 example-2 = (λ rest. refl, refl)
 
 example-3 : E3
-unfolding groups groupsIn readNumber readFrom
+unfolding groups groupsIn readNumber readGroups exceeds
 example-3 = ((refl, refl), λ rest. refl)
 
 example-4 : E4
-unfolding groups groupsIn readNumber readFrom numbers written readRequest readArguments schema requestOf
+unfolding groups groupsIn readNumber readGroups exceeds numbers written readRequest readArguments schema requestOf
 example-4 = (refl, refl)
 
 example-5 : E5
@@ -248,7 +248,7 @@ unfolding oneMore
 example-9 = record { at-13 = checks-in 13 14 (λ e. omega arith) refl; at-14 = at-14; at-15 = checks-in 15 15 (λ e. omega arith) refl }
 
 example-10 : E10
-unfolding readNumber readFrom readRequest
+unfolding readNumber readGroups exceeds readRequest
 example-10 = (λ rest. refl, refl)
 
 -- "They form one theorem of ten parts about the definitions."

@@ -1,4 +1,4 @@
--- `requests::number::read` meets its contract: at each return the tests that led there say which case of `readFrom` holds.
+-- `requests::number::read` meets its contract: at each return the tests that led there say what reading comes to.
 -- Assumes nothing.
 use Prim.Native.Nat.{_-_}
 use mathlib.Core.Logic.{⊎-elim}
@@ -42,7 +42,7 @@ returns-2 c =
 returns-3 : tie.Need-returns-3 Inv-loop μ-loop
 returns-3 c =
     let d = c .before .before .before .before .before in
-    last-zero (d .before .loop .inv) (d .loop-test .taken) (c .before .before .before .if1 .left) (c .before .if4 .taken) (c .if5 .taken)
+    last-zero (d .before .loop .inv) (d .loop-test .taken) (c .before .before .before .if1 .left) (c .before .if4 .taken) (omega arith)
 
 mul-t14 : tie.Need-mul-t14 Inv-loop μ-loop
 mul-t14 c =
