@@ -4,6 +4,7 @@ use mathlib.Core.List.{List, [], _∷_}
 use mathlib.Core.Bool.{Bool, true, false, cond, not, _&&_}
 use lib.ListN.{length}
 use lib.Dec.{leb, ltb, eqb}
+use Rattle.formats.specs.Answer.{Answer, done, refused}
 use Rattle.formats.specs.Part.{put}
 use Rattle.requests.specs.declared.number.NumberRead.{NumberRead}
 use Rattle.requests.specs.declared.number.NumberRead.the-variants.{Number, Refused}
@@ -46,23 +47,15 @@ exceeds (suc k) (b ∷ s) = leb 128 b && exceeds k s
 unfoldable pub readNumber : List ℕ → NumberRead
 readNumber s = cond (exceeds 9 s) (Refused 2) (readGroups true s)
 
--- the paper's number of each case of a reading, and its values: the number and the count of its bytes
-abbrev pub readAnswer : NumberRead → ℕ
-readAnswer (Number v k) = 0
-readAnswer (Refused w) = w
+-- the paper's number and values of each case of a reading: the number and the count of its bytes
+abbrev pub numberAnswer : NumberRead → Answer
+numberAnswer (Number v k) = done (v ∷ k ∷ [])
+numberAnswer (Refused w) = refused w
 
-abbrev pub readValues : NumberRead → List ℕ
-readValues (Number v k) = v ∷ k ∷ []
-readValues (Refused w) = []
-
--- the paper's number of each case of a writing, and its value: the count of bytes written
-abbrev pub writeAnswer : Written → ℕ
-writeAnswer (Wrote n) = 0
-writeAnswer (NotWritten w) = w
-
-abbrev pub writeValues : Written → List ℕ
-writeValues (Wrote n) = n ∷ []
-writeValues (NotWritten w) = []
+-- and of each case of a writing: the count of bytes written
+abbrev pub writtenAnswer : Written → Answer
+writtenAnswer (Wrote n) = done (n ∷ [])
+writtenAnswer (NotWritten w) = refused w
 
 -- "1 .. the buffer for a written request is too short"; "done, it changes the first n bytes and answers n":
 -- the answer of writing the bytes w into a buffer `out`

@@ -13,13 +13,15 @@ use native.Mathlib.Decide.{decLt, ℕ-discrete}
 use borrow.Author.Tests.{ltb-false, leb-true, eqb-true, not-false, lt-ltb, le-ltb, lt-leb, le-leb, ne-eqb}
 use lib.ListN.{length, take}
 use lib.Dec.{leb, ltb, eqb}
+use Rattle.formats.specs.Answer.{Answer, done, refused}
 use Rattle.formats.specs.Part.{put}
 use Rattle.formats.specs.Bytes.{Bytes}
 use Rattle.formats.proofs.Bytes.{Listed, none, more, bytes}
 use Rattle.formats.proofs.Tests.{and-false, same-test}
-use Rattle.requests.specs.Number.{groupsIn, groups, withGroup, readGroups, exceeds, readNumber, writing, writtenTo}
+use Rattle.requests.specs.Number.{groupsIn, groups, withGroup, readGroups, exceeds, readNumber, numberAnswer, writtenAnswer, writing, writtenTo}
 use Rattle.requests.specs.declared.number.NumberRead.{NumberRead}
 use Rattle.requests.specs.declared.number.NumberRead.the-variants.{Number, Refused}
+use Rattle.requests.specs.declared.number.Written.{Written}
 use Rattle.requests.specs.declared.number.Written.the-variants.{Wrote, Refused as NotWritten}
 
 -- the count of groups allowed does not matter, once it is enough
@@ -361,14 +363,32 @@ read-stays s t h = elim (kept s t) [ inl e ↦ let z : _≡_ {A = ℕ} 0 1 = cc 
 pub refused-stays : (s t : List ℕ) → readNumber s ≡ Refused 2 → readNumber (s ++ t) ≡ Refused 2
 refused-stays s t h = elim (kept s t) [ inl e ↦ let z : _≡_ {A = ℕ} 1 2 = cc in absurd (omega arith) | inr e ↦ e ∙ h ]
 
--- WRITING
+-- ANSWERS
+
+-- an answer with a value is no refusal
+pub valued : {v w : ℕ} {vs : List ℕ} → done (v ∷ vs) ≡ refused w → ⊥
+valued e = omega (arith, ap (λ (a : Answer). length (a .values)) e)
+
+-- readings, and writings, whose numbers and values are the same are the same
+pub same-number : {r q : NumberRead} → numberAnswer r ≡ numberAnswer q → r ≡ q
+same-number {r = Number v k} {q = Number w l} e = let z : v ∷ k ∷ [] ≡ w ∷ l ∷ [] = ap (λ (a : Answer). a .values) e in cc
+same-number {r = Number v k} {q = Refused w} e = absurd (valued e)
+same-number {r = Refused w} {q = Number v k} e = absurd (valued (sym e))
+same-number {r = Refused w} {q = Refused x} e = ap Refused (ap (λ (a : Answer). a .number) e)
+
+pub same-written : {r q : Written} → writtenAnswer r ≡ writtenAnswer q → r ≡ q
+same-written {r = Wrote n} {q = Wrote m} e = let z : n ∷ [] ≡ m ∷ [] = ap (λ (a : Answer). a .values) e in cc
+same-written {r = Wrote n} {q = NotWritten w} e = absurd (valued e)
+same-written {r = NotWritten w} {q = Wrote n} e = absurd (valued (sym e))
+same-written {r = NotWritten w} {q = NotWritten x} e = ap NotWritten (ap (λ (a : Answer). a .number) e)
 
 -- writing any bytes w at the front of a buffer, where there is no room for them, and where there is
-pub too-short : (w out : List ℕ) → length out < length w → (NotWritten 1 ≡ writing w out) × (out ≡ writtenTo w out)
+pub too-short : (w out : List ℕ) → length out < length w → (refused 1 ≡ writtenAnswer (writing w out)) × (out ≡ writtenTo w out)
 unfolding writing writtenTo
 too-short w out h = (simp (lt-ltb (length out) (length w) h), simp (lt-ltb (length out) (length w) h))
 
-pub wrote : (w out : List ℕ) {n : ℕ} {after : List ℕ} → length w ≤ length out → n ≡ length w → after ≡ put out 0 w → (Wrote n ≡ writing w out) × (after ≡ writtenTo w out)
+pub wrote : (w out : List ℕ) {n : ℕ} {after : List ℕ} → length w ≤ length out → n ≡ length w → after ≡ put out 0 w
+    → (done (n ∷ []) ≡ writtenAnswer (writing w out)) × (after ≡ writtenTo w out)
 unfolding writing writtenTo
 wrote w out h count bytes =
     let fits : ltb (length out) (length w) ≡ false = le-ltb (length out) (length w) h in

@@ -12,9 +12,10 @@ use borrow.Author.Tests.{eq-eqb, ne-eqb, leb-true}
 use lib.Dec.{leb}
 use lib.ListN.{length, take, drop, length-append, length-drop}
 use lib.Seq.{take-add, drop-append-seam, drop-append-le}
+use Rattle.formats.specs.Answer.{Answer}
 use Rattle.requests.specs.Number.{groups, readNumber}
 use Rattle.requests.specs.Forms.{Below}
-use Rattle.requests.specs.Request.{limit, kindLimit, schema, kindOf, valuesOf, requestOf, numbers, written, firstLimit, limitOf, ArgumentsRead, Values, Fault, withValue, readArguments, asRequest, readRequest}
+use Rattle.requests.specs.Request.{limit, kindLimit, schema, kindOf, valuesOf, requestOf, numbers, written, firstLimit, limitOf, ArgumentsRead, Values, Fault, withValue, readArguments, asRequest, readRequest, requestAnswer}
 use Rattle.requests.specs.declared.number.NumberRead.{NumberRead}
 use Rattle.requests.specs.declared.number.NumberRead.the-variants.{Number, Refused as NoNumber}
 use Rattle.requests.specs.declared.request.Argument.{Argument}
@@ -26,7 +27,7 @@ use Rattle.formats.specs.Bytes.{Bytes}
 use Rattle.formats.proofs.Bytes.{bytes-drop}
 use Rattle.formats.proofs.Cells.{cells, of-cells}
 use Rattle.formats.proofs.Tests.{split, passed}
-use Rattle.requests.proofs.number.Laws.{reading-undoes-writing, only-written, read-below, read-within, read-positive, refusals, read-stays, refused-stays}
+use Rattle.requests.proofs.number.Laws.{reading-undoes-writing, only-written, read-below, read-within, read-positive, refusals, read-stays, refused-stays, valued}
 use Rattle.requests.proofs.request.Cases.{argument-refused, argument-limit, argument-value, kind-refused, kind-limit, kind-value}
 
 below-cons : {v : ℕ} (vs : List ℕ) → v < 2 ^ 64 → Below vs → Below (v ∷ vs)
@@ -160,6 +161,18 @@ request-again (CheckIn j f) = refl
 request-again (MoveOut j h f) = refl
 request-again (MoveIn c j h) = refl
 request-again (Delete j f) = refl
+
+same-values : {q p : Request} → kindOf q ≡ kindOf p → valuesOf q ≡ valuesOf p → q ≡ p
+same-values {q} {p} k v = sym (request-again q) ∙ ap₂ requestOf k v ∙ request-again p
+
+-- readings whose numbers and values are the same are the same
+pub same-request : {r q : RequestRead} → requestAnswer r ≡ requestAnswer q → r ≡ q
+same-request {r = Read q k} {q = Read p l} e =
+    let z : k ∷ kindOf q ∷ valuesOf q ≡ l ∷ kindOf p ∷ valuesOf p = ap (λ (a : Answer). a .values) e in
+    ap₂ Read (same-values (cc) (cc)) (cc)
+same-request {r = Read q k} {q = Refused w} e = absurd (valued e)
+same-request {r = Refused w} {q = Read q k} e = absurd (valued (sym e))
+same-request {r = Refused w} {q = Refused x} e = ap Refused (ap (λ (a : Answer). a .number) e)
 
 -- reading the written form of a request that passes 3 to 6, with anything after it, yields the request and exactly its bytes
 pub reading-undoes-writing-request : (q : Request) (t : List ℕ) → limitOf q ≡ 0 → Below (valuesOf q) → readRequest (written q ++ t) ≡ Read q (length (written q))
