@@ -15,7 +15,7 @@ use Rattle.formats.specs.Half.{halfBytes, flagOf, usableOf, idOf}
 use Rattle.formats.specs.Title.{cciOf, titleHalf}
 use Rattle.formats.specs.Entry.{kindOf}
 use Rattle.formats.specs.Head.{rulesPass, rulesApplication, ledgerApplication}
-use Rattle.requests.specs.Number.{groupsIn, groups, readFrom, readNumber}
+use Rattle.requests.specs.Number.{groupsIn, groups, readGroups, exceeds, readNumber}
 use Rattle.requests.specs.Request.{kindOf as callOf, numbers as numbersIn, written, readRequest, readArguments, schema, requestOf}
 use Rattle.formats.specs.declared.facts.EntryNumber.{EntryNumber}
 use Rattle.formats.specs.declared.entry.EntryKind.the-variants.{Torn}
@@ -36,19 +36,19 @@ use Rattle.calls.proofs.Passed.{numbers, rules-right}
 use Rattle.calls.proofs.Done.{work-is-done}
 
 example-1 : E1
-unfolding groups groupsIn readNumber readFrom
+unfolding groups groupsIn readNumber readGroups exceeds
 example-1 = ((refl, refl), (refl, refl), (refl, refl))
 
 example-2 : E2
-unfolding readNumber readFrom
+unfolding readNumber readGroups exceeds
 example-2 = (λ rest. refl, refl)
 
 example-3 : E3
-unfolding groups groupsIn readNumber readFrom
+unfolding groups groupsIn readNumber readGroups exceeds
 example-3 = ((refl, refl), λ rest. refl)
 
 example-4 : E4
-unfolding groups groupsIn readNumber readFrom numbersIn written readRequest readArguments schema requestOf
+unfolding groups groupsIn readNumber readGroups exceeds numbersIn written readRequest readArguments schema requestOf
 example-4 = (refl, refl)
 
 example-5 : E5
@@ -178,7 +178,7 @@ unfolding oneMore
 example-9 = record { at-13 = checks-in 13 14 refl; at-14 = at-14; at-15 = checks-in 15 15 refl }
 
 example-10 : E10
-unfolding readNumber readFrom readRequest
+unfolding readNumber readGroups exceeds readRequest
 example-10 = (λ rest. refl, refl)
 
 -- "They form one theorem of ten parts about the definitions."

@@ -1,6 +1,6 @@
 // Serving requests from their bytes.
 ghost use mathlib.Core.Path.{_≡_};
-ghost use Rattle.requests.specs.Request.{kindOf, requestAnswer, readRequest};
+ghost use Rattle.requests.specs.Request.{readRequest};
 ghost use Rattle.calls.specs.Buffers.{lent};
 ghost use Rattle.music_counter.specs.Answer.{Answers};
 ghost use Rattle.music_counter.specs.Serve.{servedNumber, servedBy, leftBy, unread, streamOf, carriedOut};
@@ -54,16 +54,6 @@ pub fn perform(ledger: &mut [u8], titles: &mut [u8], rules: &mut [u8], request: 
     }
 }
 
-// The number of a request that could not be read; 0 of one that was.
-fn stopped(found: RequestRead) -> u64
-    ensures { λ r. ⌜ r ≡ requestAnswer found ⌝ }
-{
-    match found {
-        RequestRead::Read { request: _, len: _ } => 0,
-        RequestRead::Refused(w) => w,
-    }
-}
-
 // Serves the request at the front of `s`. A faulty one is set aside with its number before any of it is used.
 pub fn next(ledger: &mut [u8], titles: &mut [u8], rules: &mut [u8], s: &[u8]) -> Served
     ensures { λ r. ⌜ r ≡ servedBy (readRequest (now (s .entry))) (lent (now (ledger .entry)) (now (titles .entry)) (now (rules .entry))) ⌝ }
@@ -71,7 +61,7 @@ pub fn next(ledger: &mut [u8], titles: &mut [u8], rules: &mut [u8], s: &[u8]) ->
 {
     let found = request::read(s);
     let RequestRead::Read { request, len } = found else {
-        return Served::Refused(stopped(found));
+        return Served::Refused(request::number(found));
     };
     let kind = request::kind(request);
     let answer = perform(ledger, titles, rules, request);

@@ -1,3 +1,4 @@
 pub mod Number
 pub mod Request
 pub mod Packed
+pub mod Forms

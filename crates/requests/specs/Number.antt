@@ -1,9 +1,10 @@
 -- "A number is groups of seven bits, low group first, top bit set in all bytes but the last."
 use Prim.Native.Nat.{ℕ, zero, suc, _+_, _-_, _*_, _/_, _%_}
 use mathlib.Core.List.{List, [], _∷_}
-use mathlib.Core.Bool.{Bool, true, false, cond}
+use mathlib.Core.Bool.{Bool, true, false, cond, not, _&&_}
 use lib.ListN.{length}
-use lib.Dec.{ltb, eqb}
+use lib.Dec.{leb, ltb, eqb}
+use Rattle.formats.specs.Answer.{Answer, done, refused}
 use Rattle.formats.specs.Part.{put}
 use Rattle.requests.specs.declared.number.NumberRead.{NumberRead}
 use Rattle.requests.specs.declared.number.NumberRead.the-variants.{Number, Refused}
@@ -25,39 +26,36 @@ abbrev pub withGroup : ℕ → NumberRead → NumberRead
 withGroup low (Number v k) = Number (low + 128 * v) (k + 1)
 withGroup low (Refused w) = Refused w
 
--- what reading finds after i bytes of a number:
--- 1 where the bytes end inside it; "A tenth byte other than 01h is 2, and nothing after it counts";
--- 2 where it is not in shortest form, which is a last group of 0 that is not the only one
-unfoldable pub readFrom : ℕ → List ℕ → NumberRead
-readFrom i [] = Refused 1
-readFrom i (b ∷ s) =
-    cond (eqb i 9)
-    (cond (eqb b 1) (Number 1 1) (Refused 2))
-    (cond (ltb b 128)
-    (cond (eqb b 0) (cond (ltb 0 i) (Refused 2) (Number b 1)) (Number b 1))
-    (withGroup (b - 128) (readFrom (i + 1) s)))
+-- what reading finds in groups, however many there are; `only` says that no group stands before them:
+-- 1 where the bytes end inside the number, 2 where its last group is 0 and not the only one, which is not the shortest form
+unfoldable pub readGroups : Bool → List ℕ → NumberRead
+readGroups only [] = Refused 1
+readGroups only (b ∷ s) =
+    cond (ltb b 128)
+    (cond (not only && eqb b 0) (Refused 2) (Number b 1))
+    (withGroup (b - 128) (readGroups false s))
 
--- what reading finds at the front of s: a number and the count of its bytes, or a refusal
+-- whether a byte other than 01h follows k bytes with the top bit set
+unfoldable pub exceeds : ℕ → List ℕ → Bool
+exceeds zero [] = false
+exceeds zero (b ∷ s) = not (eqb b 1)
+exceeds (suc k) [] = false
+exceeds (suc k) (b ∷ s) = leb 128 b && exceeds k s
+
+-- "A tenth byte other than 01h is 2, and nothing after it counts":
+-- what reading finds at the front of s, a number and the count of its bytes, or a refusal
 unfoldable pub readNumber : List ℕ → NumberRead
-readNumber s = readFrom 0 s
+readNumber s = cond (exceeds 9 s) (Refused 2) (readGroups true s)
 
--- the paper's number of each case of a reading, and its values: the number and the count of its bytes
-abbrev pub readAnswer : NumberRead → ℕ
-readAnswer (Number v k) = 0
-readAnswer (Refused w) = w
+-- the paper's number and values of each case of a reading: the number and the count of its bytes
+abbrev pub numberAnswer : NumberRead → Answer
+numberAnswer (Number v k) = done (v ∷ k ∷ [])
+numberAnswer (Refused w) = refused w
 
-abbrev pub readValues : NumberRead → List ℕ
-readValues (Number v k) = v ∷ k ∷ []
-readValues (Refused w) = []
-
--- the paper's number of each case of a writing, and its value: the count of bytes written
-abbrev pub writeAnswer : Written → ℕ
-writeAnswer (Wrote n) = 0
-writeAnswer (NotWritten w) = w
-
-abbrev pub writeValues : Written → List ℕ
-writeValues (Wrote n) = n ∷ []
-writeValues (NotWritten w) = []
+-- and of each case of a writing: the count of bytes written
+abbrev pub writtenAnswer : Written → Answer
+writtenAnswer (Wrote n) = done (n ∷ [])
+writtenAnswer (NotWritten w) = refused w
 
 -- "1 .. the buffer for a written request is too short"; "done, it changes the first n bytes and answers n":
 -- the answer of writing the bytes w into a buffer `out`

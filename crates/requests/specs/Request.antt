@@ -4,6 +4,7 @@ use mathlib.Core.List.{List, [], _∷_, _++_}
 use mathlib.Core.Bool.{_&&_, cond}
 use lib.ListN.{getD, drop}
 use lib.Dec.{leb, eqb}
+use Rattle.formats.specs.Answer.{Answer, done, refused}
 use Rattle.formats.specs.Facts.{factValues, cciPasses, triggerPasses, countPasses, keyPasses}
 use Rattle.requests.specs.Number.{groups, readNumber, writing, writtenTo}
 use Rattle.formats.specs.Refusal.{unless}
@@ -154,14 +155,10 @@ readRequest s =
     onKind (readNumber s)
     (λ kind k. cond (eqb (kindLimit kind) 0) (asRequest kind k (readArguments (schema kind) (drop k s))) (Refused (kindLimit kind)))
 
--- the paper's number of each case of reading a request, and its values: the kind and the arguments
-abbrev pub requestAnswer : RequestRead → ℕ
-requestAnswer (Read q k) = 0
-requestAnswer (Refused w) = w
-
-abbrev pub requestValues : RequestRead → List ℕ
-requestValues (Read q k) = kindOf q ∷ valuesOf q
-requestValues (Refused w) = []
+-- the paper's number and values of each case of reading a request: the count of its bytes, its kind and its arguments
+abbrev pub requestAnswer : RequestRead → Answer
+requestAnswer (Read q k) = done (k ∷ kindOf q ∷ valuesOf q)
+requestAnswer (Refused w) = refused w
 
 -- "A read request comes with the unread remainder ..; on a refusal the remainder is all of them."
 abbrev pub remainderOf : List ℕ → RequestRead → List ℕ

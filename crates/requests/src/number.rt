@@ -3,7 +3,7 @@ ghost use mathlib.Core.Path.{_≡_};
 ghost use Prim.Native.Nat.{_+_, _≤_};
 ghost use lib.ListN.{length};
 ghost use Rattle.formats.specs.Part.{put, fitting};
-ghost use Rattle.requests.specs.Number.{groups, readNumber, writing, writtenTo};
+ghost use Rattle.requests.specs.Number.{groups, readNumber, numberAnswer, writtenAnswer, writing, writtenTo};
 use formats::refusal;
 
 // What reading a number finds: the number and the count of its bytes, or a refusal, 1 or 2.
@@ -20,7 +20,7 @@ pub enum Written {
 
 // The number at the front of `s`.
 pub fn read(s: &[u8]) -> NumberRead
-    ensures { λ r. ⌜ r ≡ readNumber (now (s .entry)) ⌝ }
+    ensures { λ r. ⌜ numberAnswer r ≡ numberAnswer (readNumber (now (s .entry))) ⌝ }
 {
     let mut value: u64 = 0;
     let mut place: u64 = 1;
@@ -92,7 +92,7 @@ pub fn write_at(x: u64, out: &mut [u8], at: usize) -> usize
 
 // Writes `x` at the front of `out`; where it does not fit, changes nothing and refuses.
 pub fn write(x: u64, out: &mut [u8]) -> Written
-    ensures { λ r. ⌜ r ≡ writing (groups x) (now (out .entry)) ⌝ }
+    ensures { λ r. ⌜ writtenAnswer r ≡ writtenAnswer (writing (groups x) (now (out .entry))) ⌝ }
     ensures { λ _. ⌜ now (out .exit) ≡ writtenTo (groups x) (now (out .entry)) ⌝ }
 {
     let n = len(x);

@@ -6,9 +6,9 @@ ghost use lib.ListN.{length};
 ghost use lib.Dec.{leb};
 ghost use Rattle.formats.specs.Part.{put};
 ghost use Rattle.formats.specs.Facts.{cciPasses};
-ghost use Rattle.requests.specs.Number.{readAnswer};
+ghost use Rattle.requests.specs.Number.{numberAnswer, writtenAnswer};
 ghost use Rattle.formats.specs.Refusal.{unless};
-ghost use Rattle.requests.specs.Request.{limit, kindOf, schema, factsFrom, fillersFrom, requestOf, written, limitOf, Fault, readArguments, readRequest, remainderOf, writingRequest, requestWrittenTo};
+ghost use Rattle.requests.specs.Request.{limit, kindOf, schema, factsFrom, fillersFrom, requestOf, written, limitOf, Fault, readArguments, readRequest, requestAnswer, remainderOf, writingRequest, requestWrittenTo};
 ghost use Rattle.requests.specs.Packed.{argumentOf, packed, Holds, argumentsAnswer};
 use crate::number;
 use crate::number::NumberRead;
@@ -309,7 +309,7 @@ fn refused(refusal: u64) -> Arguments
 
 // The refusal that reading a number found, or 0.
 fn number_refusal(found: NumberRead) -> u64
-    ensures { λ r. ⌜ r ≡ readAnswer found ⌝ }
+    ensures { λ r. ⌜ r ≡ numberAnswer found .number ⌝ }
 {
     match found {
         NumberRead::Number { value: _, len: _ } => 0,
@@ -385,7 +385,7 @@ pub fn kind(request: Request) -> u64
 
 // The request at the front of `s`.
 pub fn read(s: &[u8]) -> RequestRead
-    ensures { λ r. ⌜ r ≡ readRequest (now (s .entry)) ⌝ }
+    ensures { λ r. ⌜ requestAnswer r ≡ requestAnswer (readRequest (now (s .entry))) ⌝ }
 {
     let found = number::read(s);
     let NumberRead::Number { value: kind, len } = found else {
@@ -403,6 +403,16 @@ pub fn read(s: &[u8]) -> RequestRead
     RequestRead::Read {
         request: request_of(kind, values),
         len: len + arguments.len,
+    }
+}
+
+// The number of what reading found: 0 of a request that was read.
+pub fn number(found: RequestRead) -> u64
+    ensures { λ r. ⌜ r ≡ requestAnswer found .number ⌝ }
+{
+    match found {
+        RequestRead::Read { request: _, len: _ } => 0,
+        RequestRead::Refused(w) => w,
     }
 }
 
@@ -480,7 +490,7 @@ fn store(request: Request, out: &mut [u8])
 
 // Writes a request at the front of `out`; where an argument is past its limit or it does not fit, changes nothing and refuses.
 pub fn write(request: Request, out: &mut [u8]) -> Written
-    ensures { λ r. ⌜ r ≡ writingRequest request (now (out .entry)) ⌝ }
+    ensures { λ r. ⌜ writtenAnswer r ≡ writtenAnswer (writingRequest request (now (out .entry))) ⌝ }
     ensures { λ _. ⌜ now (out .exit) ≡ requestWrittenTo request (now (out .entry)) ⌝ }
 {
     let w = limit(request);

@@ -9,26 +9,35 @@ use Rattle.requests.specs.declared.number.Written.the-variants.{Wrote, Refused 
 use Rattle.requests.specs.declared.request.Request.{Request}
 use Rattle.requests.specs.declared.request.RequestRead.{RequestRead}
 use Rattle.requests.specs.declared.request.RequestRead.the-variants.{Read, Refused}
-use Rattle.requests.specs.Number.{writeAnswer}
+use Rattle.requests.specs.Number.{writtenAnswer}
 use Rattle.requests.specs.Packed.{Holds}
 use Rattle.requests.specs.Request.{readRequest, requestAnswer, requestOf, writingRequest, requestWrittenTo}
+use Rattle.requests.proofs.number.Laws.{same-written}
+use Rattle.requests.proofs.request.Laws.{same-request}
 use Rattle.till.specs.Requests.{kindAfter, argumentsAfter, usedAfter, writingNumbers, numbersWrittenTo, countAfter}
 
 module _ (s before : List ℕ) (k u : ℕ) where
-  -- a request was read: its numbers are there
-  pub told : {a : RequestRead} {q : Request} {n kind : ℕ} {values : List ℕ} → a ≡ Read q n → a ≡ readRequest s → Holds q kind values
-      → (0 ≡ requestAnswer (readRequest s)) × ((kind ≡ kindAfter (readRequest s) k) × ((values ≡ argumentsAfter (readRequest s) before) × (n ≡ usedAfter (readRequest s) u)))
-  told e r h = let x = sym r ∙ e in rw x (refl, (h .kind-is, (h .values-are, refl)))
+  -- what is promised of reading: the answer, the kind, the arguments and the count
+  abbrev Told : ℕ → ℕ → List ℕ → ℕ → Type 0
+  Told r kind values n =
+      (r ≡ requestAnswer (readRequest s) .number) × ((kind ≡ kindAfter (readRequest s) k) × ((values ≡ argumentsAfter (readRequest s) before) × (n ≡ usedAfter (readRequest s) u)))
 
-  -- none was read: what stood there stays
-  pub kept : {a : RequestRead} {w : ℕ} → a ≡ Refused w → a ≡ readRequest s
-      → (w ≡ requestAnswer (readRequest s)) × ((k ≡ kindAfter (readRequest s) k) × ((before ≡ argumentsAfter (readRequest s) before) × (u ≡ usedAfter (readRequest s) u)))
-  kept e r = let x = sym r ∙ e in rw x (refl, (refl, (refl, refl)))
+  module _ {a : RequestRead} (r : requestAnswer a ≡ requestAnswer (readRequest s)) where
+    found : {x : RequestRead} → a ≡ x → readRequest s ≡ x
+    found e = sym (same-request r) ∙ e
+
+    -- a request was read: its numbers are there
+    pub told : {q : Request} {n kind : ℕ} {values : List ℕ} → a ≡ Read q n → Holds q kind values → Told 0 kind values n
+    told e h = rw (found e) (refl, (h .kind-is, (h .values-are, refl)))
+
+    -- none was read: what stood there stays
+    pub kept : {w x : ℕ} → a ≡ Refused w → x ≡ requestAnswer a .number → Told x k before u
+    kept e d = rw (found e) (rw e at d, (refl, (refl, refl)))
 
 -- what is promised of writing: the answer, the bytes and the count
 abbrev Promised : ℕ → List ℕ → List ℕ → ℕ → ℕ → List ℕ → ℕ → Type 0
 Promised kind arguments out used r after n =
-    (r ≡ writeAnswer (writingNumbers kind arguments out)) × ((after ≡ numbersWrittenTo kind arguments out) × (n ≡ countAfter (writingNumbers kind arguments out) used))
+    (r ≡ writtenAnswer (writingNumbers kind arguments out) .number) × ((after ≡ numbersWrittenTo kind arguments out) × (n ≡ countAfter (writingNumbers kind arguments out) used))
 
 module _ (kind : ℕ) (arguments out : List ℕ) (used : ℕ) where
   pub below : kind < 1 → Promised kind arguments out used 3 out used
@@ -40,16 +49,16 @@ module _ (kind : ℕ) (arguments out : List ℕ) (used : ℕ) where
   above l h = let s = le-leb 1 kind l in let t = lt-leb kind 7 h in (simp (s, t), (simp (s, t), simp (s, t)))
 
   module _ (l : 1 ≤ kind) (h : kind ≤ 7) {q : Request} {a : Written} {after : List ℕ} (of : q ≡ requestOf kind arguments)
-      (answered : a ≡ writingRequest q out) (left : after ≡ requestWrittenTo q out) where
+      (answered : writtenAnswer a ≡ writtenAnswer (writingRequest q out)) (left : after ≡ requestWrittenTo q out) where
     by : (a ≡ writingNumbers kind arguments out) × (after ≡ numbersWrittenTo kind arguments out)
     unfolding writingNumbers numbersWrittenTo
     by =
         let s = le-leb 1 kind l in
         let t = le-leb kind 7 h in
-        (simp (s, t) (answered ∙ ap (λ (p : Request). writingRequest p out) of), simp (s, t) (left ∙ ap (λ (p : Request). requestWrittenTo p out) of))
+        (simp (s, t) (same-written answered ∙ ap (λ (p : Request). writingRequest p out) of), simp (s, t) (left ∙ ap (λ (p : Request). requestWrittenTo p out) of))
 
     pub wrote : {n : ℕ} → a ≡ Wrote n → Promised kind arguments out used 0 after n
-    wrote e = let x = sym (by .0) ∙ e in (ap writeAnswer (sym x), (by .1, ap (λ (z : Written). countAfter z used) (sym x)))
+    wrote e = let x = sym (by .0) ∙ e in (ap (λ (z : Written). writtenAnswer z .number) (sym x), (by .1, ap (λ (z : Written). countAfter z used) (sym x)))
 
     pub refused : {w : ℕ} → a ≡ NotWritten w → Promised kind arguments out used w after used
-    refused e = let x = sym (by .0) ∙ e in (ap writeAnswer (sym x), (by .1, ap (λ (z : Written). countAfter z used) (sym x)))
+    refused e = let x = sym (by .0) ∙ e in (ap (λ (z : Written). writtenAnswer z .number) (sym x), (by .1, ap (λ (z : Written). countAfter z used) (sym x)))

@@ -8,7 +8,7 @@ ghost use Rattle.tables.specs.Tally.{tallied};
 ghost use Rattle.music_counter.specs.Answer.{Answers, AnswersByLedger};
 ghost use Rattle.till.specs.Given.{title, place, facts, fillers};
 ghost use Rattle.till.specs.Tally.{copiesAfter};
-ghost use Rattle.requests.specs.Number.{writeAnswer};
+ghost use Rattle.requests.specs.Number.{writtenAnswer};
 ghost use Rattle.requests.specs.Request.{readRequest, requestAnswer};
 ghost use Rattle.till.specs.Requests.{kindAfter, argumentsAfter, usedAfter, writingNumbers, numbersWrittenTo, countAfter};
 use formats::facts::ContentId;
@@ -228,23 +228,21 @@ pub extern "C" fn counter_read_request(
     arguments: &mut [u64; 9],
     used: &mut usize,
 ) -> u64
-    ensures { λ r. ⌜ r ≡ requestAnswer (readRequest (now (bytes .entry))) ⌝ }
+    ensures { λ r. ⌜ r ≡ requestAnswer (readRequest (now (bytes .entry))) .number ⌝ }
     ensures { λ _. ⌜ now (kind .exit) ≡ kindAfter (readRequest (now (bytes .entry))) (now (kind .entry)) ⌝ }
     ensures { λ _. ⌜ now (arguments .exit) ≡ argumentsAfter (readRequest (now (bytes .entry))) (now (arguments .entry)) ⌝ }
     ensures { λ _. ⌜ now (used .exit) ≡ usedAfter (readRequest (now (bytes .entry))) (now (used .entry)) ⌝ }
 {
     let found = request::read(bytes);
-    match found {
-        RequestRead::Read { request, len } => {
-            let numbers = request::numbers_of(request);
-            let values = numbers.values;
-            *kind = numbers.kind;
-            *arguments = values;
-            *used = len;
-            0
-        }
-        RequestRead::Refused(w) => w,
-    }
+    let RequestRead::Read { request, len } = found else {
+        return request::number(found);
+    };
+    let numbers = request::numbers_of(request);
+    let values = numbers.values;
+    *kind = numbers.kind;
+    *arguments = values;
+    *used = len;
+    0
 }
 
 // Answers 0, or 3, 4, 5, 6 or 1 with nothing changed.
@@ -255,7 +253,7 @@ pub extern "C" fn counter_write_request(
     arguments: &[u64; 9],
     used: &mut usize,
 ) -> u64
-    ensures { λ r. ⌜ r ≡ writeAnswer (writingNumbers kind (now (arguments .entry)) (now (bytes .entry))) ⌝ }
+    ensures { λ r. ⌜ r ≡ writtenAnswer (writingNumbers kind (now (arguments .entry)) (now (bytes .entry))) .number ⌝ }
     ensures { λ _. ⌜ now (bytes .exit) ≡ numbersWrittenTo kind (now (arguments .entry)) (now (bytes .entry)) ⌝ }
     ensures { λ _. ⌜ now (used .exit) ≡ countAfter (writingNumbers kind (now (arguments .entry)) (now (bytes .entry))) (now (used .entry)) ⌝ }
 {

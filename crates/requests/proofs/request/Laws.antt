@@ -10,10 +10,12 @@ use native.Mathlib.Omega.{arith}
 use native.Mathlib.Decide.{ℕ-discrete}
 use borrow.Author.Tests.{eq-eqb, ne-eqb, leb-true}
 use lib.Dec.{leb}
-use lib.ListN.{length, take, drop, getD, length-append, length-drop}
+use lib.ListN.{length, take, drop, length-append, length-drop}
 use lib.Seq.{take-add, drop-append-seam, drop-append-le}
+use Rattle.formats.specs.Answer.{Answer}
 use Rattle.requests.specs.Number.{groups, readNumber}
-use Rattle.requests.specs.Request.{limit, kindLimit, schema, kindOf, valuesOf, requestOf, numbers, written, firstLimit, limitOf, ArgumentsRead, Values, Fault, withValue, readArguments, asRequest, readRequest}
+use Rattle.requests.specs.Forms.{Below}
+use Rattle.requests.specs.Request.{limit, kindLimit, schema, kindOf, valuesOf, requestOf, numbers, written, firstLimit, limitOf, ArgumentsRead, Values, Fault, withValue, readArguments, asRequest, readRequest, requestAnswer}
 use Rattle.requests.specs.declared.number.NumberRead.{NumberRead}
 use Rattle.requests.specs.declared.number.NumberRead.the-variants.{Number, Refused as NoNumber}
 use Rattle.requests.specs.declared.request.Argument.{Argument}
@@ -25,12 +27,8 @@ use Rattle.formats.specs.Bytes.{Bytes}
 use Rattle.formats.proofs.Bytes.{bytes-drop}
 use Rattle.formats.proofs.Cells.{cells, of-cells}
 use Rattle.formats.proofs.Tests.{split, passed}
-use Rattle.requests.proofs.number.Laws.{reading-undoes-writing, only-written, read-below, read-within, read-positive, refusals, read-stays, refused-stays}
+use Rattle.requests.proofs.number.Laws.{reading-undoes-writing, only-written, read-below, read-within, read-positive, refusals, read-stays, refused-stays, valued}
 use Rattle.requests.proofs.request.Cases.{argument-refused, argument-limit, argument-value, kind-refused, kind-limit, kind-value}
-
--- every value is a 64-bit number
-abbrev pub Below : List ℕ → Type 0
-Below vs = (j : ℕ) → getD vs j 0 < 2 ^ 64
 
 below-cons : {v : ℕ} (vs : List ℕ) → v < 2 ^ 64 → Below vs → Below (v ∷ vs)
 below-cons vs h b zero = h
@@ -164,6 +162,18 @@ request-again (MoveOut j h f) = refl
 request-again (MoveIn c j h) = refl
 request-again (Delete j f) = refl
 
+same-values : {q p : Request} → kindOf q ≡ kindOf p → valuesOf q ≡ valuesOf p → q ≡ p
+same-values {q} {p} k v = sym (request-again q) ∙ ap₂ requestOf k v ∙ request-again p
+
+-- readings whose numbers and values are the same are the same
+pub same-request : {r q : RequestRead} → requestAnswer r ≡ requestAnswer q → r ≡ q
+same-request {r = Read q k} {q = Read p l} e =
+    let z : k ∷ kindOf q ∷ valuesOf q ≡ l ∷ kindOf p ∷ valuesOf p = ap (λ (a : Answer). a .values) e in
+    ap₂ Read (same-values (cc) (cc)) (cc)
+same-request {r = Read q k} {q = Refused w} e = absurd (valued e)
+same-request {r = Refused w} {q = Read q k} e = absurd (valued (sym e))
+same-request {r = Refused w} {q = Refused x} e = ap Refused (ap (λ (a : Answer). a .number) e)
+
 -- reading the written form of a request that passes 3 to 6, with anything after it, yields the request and exactly its bytes
 pub reading-undoes-writing-request : (q : Request) (t : List ℕ) → limitOf q ≡ 0 → Below (valuesOf q) → readRequest (written q ++ t) ≡ Read q (length (written q))
 unfolding written numbers limitOf
@@ -228,7 +238,7 @@ unfolding Makes
 made {k} vs z e = makes k z vs e
 
 -- what is known of a request that was read in k bytes of s
-pub record RequestForm (s : List ℕ) (q : Request) (k : ℕ) : Type 0 where
+pub record ReadForm (s : List ℕ) (q : Request) (k : ℕ) : Type 0 where
   pub within : k ≤ length s
   pub positive : 0 < k
   pub passes : limitOf q ≡ 0
@@ -236,7 +246,7 @@ pub record RequestForm (s : List ℕ) (q : Request) (k : ℕ) : Type 0 where
   pub below : Bytes s → Below (valuesOf q)
 
 GoodRequest : List ℕ → RequestRead → Type 0
-GoodRequest s (Read q k) = RequestForm s q k
+GoodRequest s (Read q k) = ReadForm s q k
 GoodRequest s (Refused w) = 0 < w
 
 good-as : (s : List ℕ) (v k : ℕ) → readNumber s ≡ Number v k → kindLimit v ≡ 0 → (r : ArgumentsRead) → Good (schema v) (drop k s) r → GoodRequest s (asRequest v k r)
@@ -262,7 +272,7 @@ good-request s (Number v k) e =
     ]
 
 -- whatever is read, from bytes, is the written form of what was read, which passes 3 to 6
-pub request-form : (s : List ℕ) {q : Request} {k : ℕ} → readRequest s ≡ Read q k → RequestForm s q k
+pub request-form : (s : List ℕ) {q : Request} {k : ℕ} → readRequest s ≡ Read q k → ReadForm s q k
 unfolding GoodRequest
 request-form s e = rw e at (good-request s (readNumber s) refl)
 

@@ -8,7 +8,7 @@ use native.Mathlib.Numerals.{add-one}
 use lib.Bits.{bitAnd}
 use lib.ListN.{length, take, drop, getD, set, replicate, length-set, length-drop, take-append-drop}
 use lib.Seq.{drop-drop, drop-set-lt, take-suc-set, append-snoc, length-take-le, take-all}
-use Rattle.requests.specs.Number.{readNumber}
+use Rattle.requests.specs.Number.{readNumber, numberAnswer}
 use Rattle.requests.specs.Request.{limit, kindLimit, schema, requestOf, ArgumentsRead, Values, Fault, withValue, readArguments, asRequest, readRequest}
 use Rattle.requests.specs.Packed.{argumentOf, packed, filled, argumentsAnswer}
 use Rattle.requests.specs.declared.number.NumberRead.{NumberRead}
@@ -16,7 +16,7 @@ use Rattle.requests.specs.declared.number.NumberRead.the-variants.{Numbe
 use Rattle.requests.specs.declared.request.Argument.{Argument}
 use Rattle.requests.specs.declared.request.Arguments.{Arguments}
 use Rattle.formats.proofs.Zeros.{zeros-behind}
-use Rattle.requests.proofs.number.Laws.{read-within}
+use Rattle.requests.proofs.number.Laws.{read-within, same-number}
 use Rattle.requests.proofs.request.Packing.{Left, next, none, start}
 use Rattle.requests.specs.declared.request.Request.{Request}
 use Rattle.requests.specs.declared.request.RequestRead.the-variants.{Read, Refused as RequestRefused}
@@ -63,8 +63,8 @@ pub lent-rest : (s : List ℕ) (k : ℕ) → k ≤ length s → take (length s -
 lent-rest s k h = take-all (length s - k) (drop k s) (omega (arith, length-drop k s))
 
 -- what the reader of numbers found in the bytes after those used, which it is lent as `&s[used..]`
-pub found : {r x : NumberRead} (s : List ℕ) (used : ℕ) → used ≤ length s → r ≡ readNumber (take (length s - used) (drop used s)) → r ≡ x → readNumber (drop used s) ≡ x
-found s used h p e = ap readNumber (sym (lent-rest s used h)) ∙ sym p ∙ e
+pub found : {r x : NumberRead} (s : List ℕ) (used : ℕ) → used ≤ length s → numberAnswer r ≡ numberAnswer (readNumber (take (length s - used) (drop used s))) → r ≡ x → readNumber (drop used s) ≡ x
+found s used h p e = ap readNumber (sym (lent-rest s used h)) ∙ sym (same-number p) ∙ e
 
 module _ {sch : List Argument} {s : List ℕ} {left : ℕ} {values : List ℕ} {count used : ℕ}
     (inv : Taking sch s left values count used) (n : left ≡ 0 → ⊥) where

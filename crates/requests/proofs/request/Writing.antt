@@ -2,26 +2,27 @@
 -- Assumes nothing.
 use Prim.Native.Nat.{ℕ, _≤_, _<_}
 use mathlib.Core.Path.{_≡_, sym, ap, _∙_}
-use mathlib.Core.List.{List}
+use mathlib.Core.List.{List, [], _∷_}
 use borrow.Author.Tests.{eq-eqb, ne-eqb}
 use lib.ListN.{length}
+use Rattle.formats.specs.Answer.{done, refused}
 use Rattle.formats.specs.Part.{put}
+use Rattle.requests.specs.Number.{writtenAnswer}
 use Rattle.requests.specs.Request.{written, limitOf, writingRequest, requestWrittenTo}
-use Rattle.requests.specs.declared.number.Written.the-variants.{Wrote, Refused}
 use Rattle.requests.specs.declared.request.Request.{Request}
 use Rattle.requests.proofs.number.Laws.{too-short, wrote}
 
 module _ (q : Request) (out : List ℕ) where
-  pub past-limit : {w : ℕ} → w ≡ limitOf q → (w ≡ 0 → ⊥) → (Refused w ≡ writingRequest q out) × (out ≡ requestWrittenTo q out)
+  pub past-limit : {w : ℕ} → w ≡ limitOf q → (w ≡ 0 → ⊥) → (refused w ≡ writtenAnswer (writingRequest q out)) × (out ≡ requestWrittenTo q out)
   unfolding writingRequest requestWrittenTo
-  past-limit e n = let t = ne-eqb (limitOf q) 0 (λ z. n (e ∙ z)) in (simp t (ap Refused e), simp t)
+  past-limit e n = let t = ne-eqb (limitOf q) 0 (λ z. n (e ∙ z)) in (simp t (ap refused e), simp t)
 
   module _ {w : ℕ} (e : w ≡ limitOf q) (z : w ≡ 0) where
-    pub no-room : length out < length (written q) → (Refused 1 ≡ writingRequest q out) × (out ≡ requestWrittenTo q out)
+    pub no-room : length out < length (written q) → (refused 1 ≡ writtenAnswer (writingRequest q out)) × (out ≡ requestWrittenTo q out)
     unfolding writingRequest requestWrittenTo
     no-room h = let t = eq-eqb (limitOf q) 0 (sym e ∙ z) in let s = too-short (written q) out h in (simp t (s .0), simp t (s .1))
 
     pub all-written : {n : ℕ} {after : List ℕ} → n ≡ length (written q) → length (written q) ≤ length out → after ≡ put out 0 (written q)
-        → (Wrote n ≡ writingRequest q out) × (after ≡ requestWrittenTo q out)
+        → (done (n ∷ []) ≡ writtenAnswer (writingRequest q out)) × (after ≡ requestWrittenTo q out)
     unfolding writingRequest requestWrittenTo
     all-written m h f = let t = eq-eqb (limitOf q) 0 (sym e ∙ z) in let s = wrote (written q) out h m f in (simp t (s .0), simp t (s .1))

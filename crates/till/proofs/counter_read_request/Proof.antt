@@ -11,27 +11,24 @@ read-requires c κs = search needs
 enum-known-found : tie.Need-enum-known-found
 enum-known-found c = search needs
 
-numbers-of-requires : tie.Need-numbers-of-requires
-numbers-of-requires c κs = search needs
+enum-told : tie.Need-enum-told
+enum-told c = search needs
 
-enum-known-found-2 : tie.Need-enum-known-found-2
-enum-known-found-2 c = search needs
+number-requires : tie.Need-number-requires
+number-requires c κs = search needs
 
 returns : tie.Need-returns
 returns c =
-    let f = c .before .before .before in
-    told _ _ _ _ (f .found .given .1) (f .before .before .read .ensures) (c .before .numbers-of .ensures)
+    let f = c .before in
+    kept _ _ _ _ (f .before .before .read .ensures) (f .enum-told .given .1) (c .number .ensures)
+
+numbers-of-requires : tie.Need-numbers-of-requires
+numbers-of-requires c κs = search needs
 
 returns-2 : tie.Need-returns-2
-returns-2 c = kept _ _ _ _ (c .before .found2 .given .1) (c .before .before .before .read .ensures)
+returns-2 c =
+    let f = c .before .before .before in
+    told _ _ _ _ (f .before .before .read .ensures) (f .found .given .1) (c .before .numbers-of .ensures)
 
 pub counter-read-request-spec : {M : Type 1} → statement M
-counter-read-request-spec =
-    tie.close
-    (tie.spec
-    read-requires
-    enum-known-found
-    numbers-of-requires
-    enum-known-found-2
-    returns
-    returns-2)
+counter-read-request-spec = tie.close (tie.spec read-requires enum-known-found enum-told number-requires returns numbers-of-requires returns-2)

@@ -2,7 +2,10 @@
 -- Assumes nothing.
 use borrow.Author.Needs.{needs}
 use mathlib.Core.Path.{sym, ap, _∙_}
-use Rattle.requests.specs.Request.{requestAnswer}
+use denote.Ref.{now}
+use Rattle.requests.specs.Request.{readRequest, requestAnswer}
+use Rattle.requests.specs.declared.request.RequestRead.{RequestRead}
+use Rattle.requests.proofs.request.Laws.{same-request}
 use Rattle.music_counter.proofs.Serving.{served-as, set-aside}
 use Rattle.music_counter.proofs.serve.next.Statement.{statement}
 use Rattle.music_counter.proofs.serve.next.Tie as tie
@@ -16,13 +19,13 @@ enum-known-found c = search needs
 enum-told : tie.Need-enum-told
 enum-told c = search needs
 
-stopped-requires : tie.Need-stopped-requires
-stopped-requires c κs = search needs
+number-requires : tie.Need-number-requires
+number-requires c κs = search needs
 
 returns : tie.Need-returns
 returns c =
     let told = c .before .enum-told .given .1 in
-    set-aside _ _ (sym (c .before .before .before .read .ensures) ∙ told) (c .stopped .ensures ∙ ap requestAnswer told)
+    set-aside _ (readRequest (now (c .before .before .before .before .before .before .before .before .args .s))) (sym (same-request (c .before .before .before .read .ensures)) ∙ told) (c .number .ensures ∙ ap (λ (r : RequestRead). requestAnswer r .number) told)
 
 kind-requires : tie.Need-kind-requires
 kind-requires c κs = search needs
@@ -41,7 +44,7 @@ same-length-3 c = search needs
 
 returns-2 : tie.Need-returns-2
 returns-2 c =
-    served-as _ _ (sym (c .before .before .before .before .before .before .before .before .before .before .before .before .before .before .read .ensures) ∙ c .before .before .before .before .before .before .before .before .before .before .before .before .found .given .1) (c .before .before .before .before .before .before .before .before .before .before .kind .ensures) (c .before .before .before .before .before .before .perform .ensures)
+    served-as _ (readRequest (now (c .before .before .before .before .before .before .before .before .before .before .before .before .before .before .before .before .before .before .before .args .s))) (sym (same-request (c .before .before .before .before .before .before .before .before .before .before .before .before .before .before .read .ensures)) ∙ c .before .before .before .before .before .before .before .before .before .before .before .before .found .given .1) (c .before .before .before .before .before .before .before .before .before .before .kind .ensures) (c .before .before .before .before .before .before .perform .ensures)
 
 pub next-spec : {M : Type 1} → statement M
 next-spec =
@@ -50,7 +53,7 @@ next-spec =
     read-requires
     enum-known-found
     enum-told
-    stopped-requires
+    number-requires
     returns
     kind-requires
     perform-requires

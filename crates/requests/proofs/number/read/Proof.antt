@@ -1,10 +1,12 @@
--- `requests::number::read` meets its contract: at each return the tests that led there say which case of `readFrom` holds.
+-- `requests::number::read` meets its contract: at each return the tests that led there say what reading comes to.
 -- Assumes nothing.
 use Prim.Native.Nat.{_-_}
+use mathlib.Core.Path.{ap}
 use mathlib.Core.Logic.{⊎-elim}
 use native.Mathlib.Omega.{arith}
 use lib.ListN.{length, getD}
 use denote.Ref.{now}
+use Rattle.requests.specs.Number.{numberAnswer}
 use Rattle.requests.proofs.number.Reading.{Reading, start, end, place-fits, place-low, group-fits, tenth, tenth-not, last-zero, only, last, next}
 use Rattle.requests.proofs.number.read.Statement.{statement}
 use Rattle.requests.proofs.number.read.Tie as tie
@@ -32,17 +34,17 @@ add-t11 c =
 returns : tie.Need-returns Inv-loop μ-loop
 returns c =
     let d = c .before .before .before in
-    tenth (d .before .loop .inv) (d .loop-test .taken) (c .before .if1 .taken) (c .if2 .taken)
+    ap numberAnswer (tenth (d .before .loop .inv) (d .loop-test .taken) (c .before .if1 .taken) (c .if2 .taken))
 
 returns-2 : tie.Need-returns-2 Inv-loop μ-loop
 returns-2 c =
     let d = c .before .before .before in
-    tenth-not (d .before .loop .inv) (d .loop-test .taken) (c .before .if1 .taken) (c .if2 .left)
+    ap numberAnswer (tenth-not (d .before .loop .inv) (d .loop-test .taken) (c .before .if1 .taken) (c .if2 .left))
 
 returns-3 : tie.Need-returns-3 Inv-loop μ-loop
 returns-3 c =
     let d = c .before .before .before .before .before in
-    last-zero (d .before .loop .inv) (d .loop-test .taken) (c .before .before .before .if1 .left) (c .before .if4 .taken) (c .if5 .taken)
+    ap numberAnswer (last-zero (d .before .loop .inv) (d .loop-test .taken) (c .before .before .before .if1 .left) (c .before .if4 .taken) (omega arith))
 
 mul-t14 : tie.Need-mul-t14 Inv-loop μ-loop
 mul-t14 c =
@@ -62,10 +64,11 @@ add-t16 c = omega arith
 returns-4 : tie.Need-returns-4 Inv-loop μ-loop
 returns-4 c =
     let d = c .before .before .before .before in
-    ⊎-elim
+    ap numberAnswer
+    (⊎-elim
     (λ w. only (d .before .loop .inv) (d .loop-test .taken) (c .before .before .if1 .left) (c .before .if3 .taken) (omega arith))
     (λ w. last (d .before .loop .inv) (d .loop-test .taken) (c .before .before .if1 .left) (c .before .if3 .taken) (w .left))
-    (c .if4 .came)
+    (c .if4 .came))
 
 mul-value : tie.Need-mul-value Inv-loop μ-loop
 mul-value c =
@@ -98,7 +101,7 @@ loop-again c =
     next (d .before .loop .inv) (d .loop-test .taken) (c .before .if1 .left) (c .if3 .left) (omega (arith, c .before .before .shared-slice-known .given (d .before .loop .i)))
 
 returns-5 : tie.Need-returns-5 Inv-loop μ-loop
-returns-5 c = end (c .before .loop .inv) (c .loop-test .left)
+returns-5 c = ap numberAnswer (end (c .before .loop .inv) (c .loop-test .left))
 
 pub read-spec : {M : Type 1} → statement M
 read-spec =

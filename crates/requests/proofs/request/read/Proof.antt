@@ -5,10 +5,12 @@ use mathlib.Core.Path.{sym, ap, _∙_}
 use native.Mathlib.Omega.{arith}
 use borrow.Author.Needs.{needs}
 use denote.Ref.{now}
-use Rattle.requests.specs.Number.{readAnswer}
+use Rattle.requests.specs.Number.{numberAnswer}
+use Rattle.requests.specs.Request.{requestAnswer}
+use Rattle.requests.specs.declared.number.NumberRead.{NumberRead}
 use Rattle.requests.specs.declared.request.Request.{Request}
 use Rattle.requests.specs.declared.request.RequestRead.the-variants.{Read, Refused}
-use Rattle.requests.proofs.number.Laws.{read-within}
+use Rattle.requests.proofs.number.Laws.{read-within, same-number}
 use Rattle.requests.proofs.request.Cases.{kind-refused, kind-limit}
 use Rattle.requests.proofs.request.Reading.{KindRead, request-fault, request-read, request-within}
 use Rattle.requests.proofs.request.read.Statement.{statement}
@@ -30,7 +32,8 @@ returns : tie.Need-returns
 returns c =
     let told = c .before .enum-told .given .1 in
     let read = c .before .before .before in
-    ap Refused (c .number-refusal .ensures ∙ ap readAnswer told) ∙ sym (kind-refused _ (sym (read .read .ensures) ∙ told))
+    ap requestAnswer
+    (ap Refused (c .number-refusal .ensures ∙ ap (λ (r : NumberRead). numberAnswer r .number) told) ∙ sym (kind-refused _ (sym (same-number (read .read .ensures)) ∙ told)))
 
 range-limit-requires : tie.Need-range-limit-requires
 range-limit-requires c κs = search needs
@@ -39,17 +42,18 @@ returns-2 : tie.Need-returns-2
 returns-2 c =
     let x = c .before .before .before in
     let limit = c .before .range-limit .ensures in
-    ap Refused limit ∙ sym (kind-limit _ (sym (x .before .before .read .ensures) ∙ x .found .given .1) (λ y. c .if1 .taken (limit ∙ y)))
+    ap requestAnswer
+    (ap Refused limit ∙ sym (kind-limit _ (sym (same-number (x .before .before .read .ensures)) ∙ x .found .given .1) (λ y. c .if1 .taken (limit ∙ y))))
 
 sub-read-arguments : tie.Need-sub-read-arguments
 sub-read-arguments c =
     let x = c .before .before .before in
-    read-within _ (sym (x .before .before .read .ensures) ∙ x .found .given .1)
+    read-within _ (sym (same-number (x .before .before .read .ensures)) ∙ x .found .given .1)
 
 part-read-arguments-start : tie.Need-part-read-arguments-start
 part-read-arguments-start c =
     let x = c .before .before .before in
-    read-within _ (sym (x .before .before .read .ensures) ∙ x .found .given .1)
+    read-within _ (sym (same-number (x .before .before .read .ensures)) ∙ x .found .given .1)
 
 part-read-arguments-end : tie.Need-part-read-arguments-end
 part-read-arguments-end c = search needs
@@ -63,13 +67,13 @@ kind-read : (c : tie.After-read-arguments) → let x = c .before .before .before
 kind-read c =
     let x = c .before .before .before .before .before in
     record {
-      number-is = sym (x .before .before .read .ensures) ∙ x .found .given .1;
+      number-is = sym (same-number (x .before .before .read .ensures)) ∙ x .found .given .1;
       passes = sym (c .before .before .before .range-limit .ensures) ∙ c .before .before .if1 .left;
       asked = c .read-arguments .ensures;
     }
 
 returns-3 : tie.Need-returns-3
-returns-3 c = request-fault (kind-read (c .before .before)) (c .if2 .taken)
+returns-3 c = ap requestAnswer (request-fault (kind-read (c .before .before)) (c .if2 .taken))
 
 request-of-requires : tie.Need-request-of-requires
 request-of-requires c κs = search needs
@@ -85,8 +89,9 @@ returns-4 c =
     let e = c .before .before .before in
     let y = e .before .before in
     let x = y .before .before .before .before .before in
-    ap (λ (q : Request). Read q (x .found .given .0 .1 .0 + y .read-arguments .result .len)) (c .before .request-of .ensures)
-    ∙ request-read (kind-read y) (e .if2 .left)
+    ap requestAnswer
+    (ap (λ (q : Request). Read q (x .found .given .0 .1 .0 + y .read-arguments .result .len)) (c .before .request-of .ensures)
+    ∙ request-read (kind-read y) (e .if2 .left))
 
 pub read-spec : {M : Type 1} → statement M
 read-spec =

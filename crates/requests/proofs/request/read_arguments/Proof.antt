@@ -6,7 +6,8 @@ use borrow.Author.Needs.{needs}
 use denote.Ref.{now}
 use Prim.Native.Nat.{ℕ}
 use lib.ListN.{length-drop, drop}
-use Rattle.requests.specs.Number.{readAnswer}
+use Rattle.requests.specs.Number.{numberAnswer}
+use Rattle.requests.specs.declared.number.NumberRead.{NumberRead}
 use Rattle.requests.specs.Request.{schema, Fault}
 use Rattle.requests.specs.Packed.{argumentsAnswer}
 use Rattle.requests.proofs.number.Laws.{read-within}
@@ -58,7 +59,7 @@ returns c =
     let turn = read .before .before in
     let l = turn .before .loop in
     c .refused .ensures
-    ∙ ap (λ (w : ℕ). argumentsAnswer (Fault w)) (c .before .number-refusal .ensures ∙ ap readAnswer told)
+    ∙ ap (λ (w : ℕ). argumentsAnswer (Fault w)) (c .before .number-refusal .ensures ∙ ap (λ (r : NumberRead). numberAnswer r .number) told)
     ∙ no-number (l .inv) (turn .loop-test .taken) (found _ (l .used) (l .inv .within) (read .read .ensures) told)
 
 argument-of-requires : tie.Need-argument-of-requires Inv-loop μ-loop
