@@ -18,7 +18,7 @@ use Rattle.calls.specs.Conditions.{numbered, factsPass, argumentConditio
 use Rattle.calls.proofs.Refusals.{refusing}
 
 -- one test
-one-limit : (x : Bool) (n : ℕ) {rest limits : ℕ} → n ≢ 0 → rest ≡ limits → cond (not x) n rest ≡ cond (eqb (unless x n) 0) limits (unless x n)
+pub one-limit : (x : Bool) (n : ℕ) {rest limits : ℕ} → n ≢ 0 → rest ≡ limits → cond (not x) n rest ≡ cond (eqb (unless x n) 0) limits (unless x n)
 one-limit true n other e = e
 one-limit false n {limits = limits} other e = sym (ap (λ (x : Bool). cond x limits n) (ne-eqb n 0 other))
 

@@ -135,6 +135,11 @@ to-none [] r e = tt
 to-none ((m when true) ∷ cs) r e = absurd (other-than-0 m cs r .0 e)
 to-none ((m when false) ∷ cs) r e = (refl, to-none cs (other-than-0 m cs r .1) e)
 
+-- where none holds, none of the later ones does
+pub none-after : (cs ds : List Condition) → NoneHolds (cs ++ ds) → NoneHolds ds
+none-after [] ds h = h
+none-after ((m when b) ∷ cs) ds h = none-after cs ds (h .1)
+
 -- a condition of number n holds
 abbrev pub meets : ℕ → List Condition → Bool
 meets n [] = false

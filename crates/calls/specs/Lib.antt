@@ -5,6 +5,7 @@ pub mod Conditions
 pub mod Effect
 pub mod Perform
 pub mod History
+pub mod Requests
 pub mod Examples
 pub mod SampleRun
 pub mod Needs

@@ -142,7 +142,7 @@ kind-small (MoveOut j h f) = omega arith
 kind-small (MoveIn c j h) = omega arith
 kind-small (Delete j f) = omega arith
 
-values-size : (q : Request) → length (valuesOf q) ≡ length (schema (kindOf q))
+pub values-size : (q : Request) → length (valuesOf q) ≡ length (schema (kindOf q))
 unfolding schema
 values-size (Register c f) = refl
 values-size (Record c j f h) = refl
