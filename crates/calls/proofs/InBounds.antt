@@ -22,7 +22,7 @@ use Rattle.formats.proofs.row.Laws.{here-bytes, plain-bytes, permits-bytes}
 use Rattle.calls.specs.Count.{oneLess, oneMore}
 use Rattle.calls.specs.Buffers.{Buffers, rowAt, titleAt, ruleAt, rowFacts, kindAt, contentAt, factsAt, isFull, withRow}
 use Rattle.calls.specs.Effect.{afterMove, writeEntry, wipeTitle, wipeEntry, effect}
-use Rattle.calls.specs.Perform.{perform, AreBytes, InBounds, Demand1}
+use Rattle.calls.specs.Perform.{perform, AreBytes, InBounds, Demand1Calls}
 use Rattle.calls.proofs.Refusals.{either-way, call-refused-first}
 use Rattle.calls.proofs.Untouched.{untouched}
 
@@ -96,5 +96,5 @@ in-bounds k b =
     }
 
 -- DEMAND 1
-pub demand-1 : Demand1
-demand-1 k b = (call-refused-first k b, in-bounds k b)
+pub demand-1-calls : Demand1Calls
+demand-1-calls k b = (call-refused-first k b, in-bounds k b)

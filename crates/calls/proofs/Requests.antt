@@ -29,7 +29,7 @@ use Rattle.requests.proofs.request.Laws.{values-size}
 use Rattle.requests.proofs.request.Cases.{argument-refused, argument-limit, argument-value, kind-refused, kind-limit, kind-value}
 use Rattle.calls.specs.Refusal.{Condition, _when_, first, numbersOf}
 use Rattle.calls.specs.Conditions.{numbered}
-use Rattle.calls.specs.Requests.{limitConditions, numberConditions, valueRead, bytesAfter, argumentsConditions, kindCondition, readingConditions, valuesConditions, writingConditions, limitNumbers, argumentsNumbers, valuesNumbers, Reads, Writes, Demand1}
+use Rattle.calls.specs.Requests.{limitConditions, numberConditions, valueRead, bytesAfter, argumentsConditions, kindCondition, readingConditions, valuesConditions, writingConditions, limitNumbers, argumentsNumbers, valuesNumbers, Reads, Writes, Demand1Requests}
 use Rattle.calls.proofs.Refusals.{refusing, refused-first, either-way, none-after}
 use Rattle.calls.proofs.Limits.{one-limit, limits-agree}
 
@@ -235,5 +235,5 @@ module _ (q : Request) (out : List ℕ) where
       }
 
 -- DEMAND 1
-pub demand-1 : Demand1
-demand-1 = record { reading = reads; writing = writes; same-limits = limits-agree }
+pub demand-1-requests : Demand1Requests
+demand-1-requests = record { reading = reads; writing = writes; same-limits = limits-agree }

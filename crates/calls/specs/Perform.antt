@@ -55,7 +55,7 @@ pub record InBounds (b after : Buffers) : Type 0 where
   pub stay-bytes : AreBytes b → AreBytes after
 
 -- DEMAND 1, of every call on all buffers, damaged ones included
-abbrev pub Demand1 : Type 0
-Demand1 =
+abbrev pub Demand1Calls : Type 0
+Demand1Calls =
     (k : Request) (b : Buffers)
     → RefusedFirst Buffers (checked k) (conditions k b) (perform k b .answer) b (perform k b .buffers) (effect k b) × InBounds b (perform k b .buffers)

@@ -108,7 +108,8 @@ pub record Writes (q : Request) (out : List ℕ) : Type 0 where
   pub answers-length : writtenAnswer (writingRequest q out) .number ≡ 0 → writtenAnswer (writingRequest q out) ≡ done (length (written q) ∷ [])
   pub same-length : length (requestWrittenTo q out) ≡ length out
 
-pub record Demand1 : Type 0 where
+-- DEMAND 1, of requests
+pub record Demand1Requests : Type 0 where
   pub reading : (s : List ℕ) → Reads s
   pub writing : (q : Request) (out : List ℕ) → Writes q out
   -- 4 to 6 of a call are the limits of its request

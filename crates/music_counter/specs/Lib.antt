@@ -1,3 +1,4 @@
 pub mod Answer
 pub mod Serve
+pub mod SampleRun
 pub mod History

@@ -15,7 +15,7 @@ use Rattle.calls.specs.Buffers.{copies, Within}
 use Rattle.calls.specs.Refusal.{first}
 use Rattle.tables.specs.Format.{ledgerConditions, ledgerFormatting, formattedLedger, cardConditions, cardFormatting, formattedTitles, formattedRules}
 use Rattle.tables.specs.Tally.{tallyConditions, tallyRefusal, tallied}
-use Rattle.tables.specs.Demand1.{FormatsLedger, FormatsCard, Tallies, Demand1}
+use Rattle.tables.specs.Demand1.{FormatsLedger, FormatsCard, Tallies, Demand1Tables}
 use Rattle.calls.proofs.Refusals.{refused-first, either-way, of-none, holds-not}
 use Rattle.calls.proofs.Passed.{numbers}
 
@@ -75,5 +75,5 @@ tallies titles rules c =
     }
 
 -- DEMAND 1
-pub demand-1 : Demand1
-demand-1 = record { ledger = formats-ledger; card = formats-card; tally = tallies }
+pub demand-1-tables : Demand1Tables
+demand-1-tables = record { ledger = formats-ledger; card = formats-card; tally = tallies }

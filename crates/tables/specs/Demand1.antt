@@ -32,7 +32,8 @@ pub record Tallies (titles rules : List ℕ) (c : ℕ) : Type 0 where
       [] (tallied titles rules c .values) (copies c titles rules ∷ [])
   pub counted : Within 999 c → titlesPass titles ≡ true → rulesPass rules ≡ true → tallied titles rules c ≡ done (copies c titles rules ∷ [])
 
-pub record Demand1 : Type 0 where
+-- DEMAND 1, of formatting and tally
+pub record Demand1Tables : Type 0 where
   pub ledger : (ledger : List ℕ) (rows application : ℕ) → FormatsLedger ledger rows application
   pub card : (titles rules : List ℕ) (application : ℕ) → FormatsCard titles rules application
   pub tally : (titles rules : List ℕ) (c : ℕ) → Tallies titles rules c
