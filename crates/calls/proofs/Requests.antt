@@ -87,7 +87,7 @@ arguments-refuse (a ∷ rest) s =
     tested a (valueRead (readNumber s)) (argumentsConditions rest (bytesAfter s (readNumber s))) .refuses ∙ arguments-refuse rest (bytesAfter s (readNumber s))
 
 -- the kind
-kind-tested : (v : ℕ) (cs : List Condition) → first (kindCondition v ∷ cs) ≡ cond (eqb (kindLimit v) 0) (first cs) (kindLimit v)
+pub kind-tested : (v : ℕ) (cs : List Condition) → first (kindCondition v ∷ cs) ≡ cond (eqb (kindLimit v) 0) (first cs) (kindLimit v)
 unfolding first
 kind-tested v cs = one-limit (leb 1 v && leb v 7) 3 (λ e. omega arith) refl
 
@@ -219,19 +219,42 @@ module _ (q : Request) (out : List ℕ) where
       in-limits true = record { number = refl; left = refl; length-told = λ z. let o : _≡_ {A = ℕ} 1 0 = z in absurd (omega arith) }
       in-limits false = record { number = refl; left = refl; length-told = λ z. refl }
 
-  writes : Writes q out
-  unfolding writingConditions writingRequest requestWrittenTo writing writtenTo limitOf first
-  writes =
-      let t = values-tested (schema (kindOf q)) (valuesOf q) (1 when short ∷ []) in
+  -- its conditions
+  abbrev limits-tested : ValuesTested (schema (kindOf q)) (valuesOf q) (1 when short ∷ [])
+  limits-tested = values-tested (schema (kindOf q)) (valuesOf q) (1 when short ∷ [])
+
+  pub writing-numbers : numbersOf (writingConditions q out) ≡ valuesNumbers (schema (kindOf q)) ++ (1 ∷ [])
+  unfolding writingConditions
+  writing-numbers = limits-tested .numbers (values-size q)
+
+  pub writing-refuses : refusing (writingConditions q out) ≡ true
+  unfolding writingConditions
+  writing-refuses = limits-tested .refuses
+
+  -- what it answers and leaves by them
+  pub writing-answer : writtenAnswer (writingRequest q out) .number ≡ first (writingConditions q out)
+  unfolding writingConditions writingRequest writing limitOf first
+  writing-answer = outcome (limitOf q) short .number ∙ sym (limits-tested .answer)
+
+  pub writing-left : requestWrittenTo q out ≡ cond (eqb (writtenAnswer (writingRequest q out) .number) 0) (put out 0 (written q)) out
+  unfolding writingRequest requestWrittenTo writing writtenTo
+  writing-left =
       let o = outcome (limitOf q) short in
-      let d = refused-first (writingConditions q out) (t .numbers (values-size q)) (t .refuses) (o .number ∙ sym (t .answer))
-      (o .left ∙ ap (λ (n : ℕ). cond (eqb n 0) (put out 0 (written q)) out) (sym (o .number))) in
+      o .left ∙ ap (λ (n : ℕ). cond (eqb n 0) (put out 0 (written q)) out) (sym (o .number))
+
+  writes : Writes q out
+  unfolding writingConditions writingRequest writing
+  writes =
+      let o = outcome (limitOf q) short in
+      let d = refused-first (writingConditions q out) writing-numbers writing-refuses writing-answer writing-left in
       record {
         refused-first = d;
         answers-length = λ zero. o .length-told (sym (o .number) ∙ zero);
         same-length =
             either-way (λ (l : List ℕ). length l ≡ length out) d refl
-            (λ none. put-length out (written q) 0 (omega (arith, ltb-false (length out) (length (written q)) (none-after (valuesConditions (schema (kindOf q)) (valuesOf q)) (1 when short ∷ []) none .0))));
+            (λ none.
+            let fits = ltb-false (length out) (length (written q)) (none-after (valuesConditions (schema (kindOf q)) (valuesOf q)) (1 when short ∷ []) none .0) in
+            put-length out (written q) 0 (omega arith));
       }
 
 -- DEMAND 1

@@ -1,0 +1,76 @@
+-- The three demands are met.
+-- Assumes nothing.
+use Prim.Native.Nat.{ℕ}
+use mathlib.Core.Path.{_≡_, refl, sym, ap, _∙_}
+use mathlib.Core.List.{List, _∷_}
+use mathlib.Core.Bool.{Bool, true, false, cond}
+use native.Mathlib.Decide.{ℕ-discrete}
+use lib.Dec.{eqb}
+use borrow.Author.Tests.{eq-eqb, ne-eqb}
+use Rattle.formats.specs.Part.{put}
+use Rattle.requests.specs.declared.number.Written.{Written}
+use Rattle.requests.specs.declared.number.Written.the-variants.{Refused as NotWritten}
+use Rattle.requests.specs.Number.{writtenAnswer}
+use Rattle.requests.specs.Request.{kindLimit, requestOf, written, writingRequest, requestWrittenTo}
+use Rattle.requests.proofs.Forms.{groups-of-seven, number-form, one-written-form}
+use Rattle.calls.specs.Requests.{kindCondition, writingConditions}
+use Rattle.calls.proofs.Refusals.{refused-first}
+use Rattle.calls.proofs.InBounds.{demand-1-calls}
+use Rattle.calls.proofs.Requests.{kind-tested, writing-numbers, writing-refuses, writing-answer, writing-left, demand-1-requests}
+use Rattle.calls.proofs.Done.{work-is-done, register-by-ledger}
+use Rattle.calls.proofs.Examples.{ten-examples}
+use Rattle.calls.proofs.SampleRun.{sample-run}
+use Rattle.calls.proofs.History.Always.{history}
+use Rattle.tables.proofs.Demand1.{demand-1-tables}
+use Rattle.tables.proofs.History.{formatted-history}
+use Rattle.music_counter.proofs.SampleRun.{sample-stream}
+use Rattle.music_counter.proofs.History.{served-history}
+use Rattle.till.specs.Requests.{writingNumbers, numbersWrittenTo}
+use Rattle.till.specs.Demands.{WritesNumbers, Demands}
+
+-- WRITING NUMBERS: the kind is tested before the rest
+
+-- the number of an answer that is a refusal, or another answer
+number-of : (x : Bool) (w : ℕ) (other : Written) → writtenAnswer (cond x other (NotWritten w)) .number ≡ cond x (writtenAnswer other .number) w
+number-of true w other = refl
+number-of false w other = refl
+
+-- what is left by it
+left-by : (w n : ℕ) (made out : List ℕ) {after : List ℕ} → after ≡ cond (eqb n 0) made out → cond (eqb w 0) after out ≡ cond (eqb (cond (eqb w 0) n w) 0) made out
+left-by w n made out e = elim (ℕ-discrete w 0) [ yes zero ↦ simp (eq-eqb w 0 zero) e | no other ↦ simp (ne-eqb w 0 other, ne-eqb w 0 other) ]
+
+writes-numbers : (kind : ℕ) (arguments out : List ℕ) → WritesNumbers kind arguments out
+unfolding writingNumbers numbersWrittenTo
+writes-numbers kind arguments out =
+    let q = requestOf kind arguments in
+    let w = kindLimit kind in
+    let cs = writingConditions q out in
+    let number = number-of (eqb w 0) w (writingRequest q out) in
+    refused-first (kindCondition kind ∷ cs) (ap (λ (l : List ℕ). 3 ∷ l) (writing-numbers q out)) (writing-refuses q out)
+    (number ∙ ap (λ (n : ℕ). cond (eqb w 0) n w) (writing-answer q out) ∙ sym (kind-tested kind cs))
+    (left-by w (writtenAnswer (writingRequest q out) .number) (put out 0 (written q)) out (writing-left q out) ∙ ap (λ (n : ℕ). cond (eqb n 0) (put out 0 (written q)) out) (sym number))
+
+-- THE DEMANDS
+pub demands : Demands
+demands =
+    record {
+      first =
+          record {
+            calls = demand-1-calls;
+            work = work-is-done;
+            register-by-ledger = register-by-ledger;
+            tables = demand-1-tables;
+            requests = demand-1-requests;
+            till-writes = writes-numbers;
+          };
+      second =
+          record {
+            groups = groups-of-seven;
+            number-form = number-form;
+            request-form = one-written-form;
+            examples = ten-examples;
+            sample-run = sample-run;
+            sample-stream = sample-stream;
+          };
+      third = record { history = history; formatted = formatted-history; served = served-history };
+    }
