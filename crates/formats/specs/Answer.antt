@@ -7,7 +7,7 @@ pub record Answer : Type 0 where
   pub number : ℕ
   pub values : List ℕ
 
--- a case by the two
+-- the answer of a case that has this number and these values
 abbrev pub case : ℕ → List ℕ → Answer
 case number values = record { number = number; values = values }
 

@@ -5,7 +5,7 @@ use mathlib.Core.Path.{_≡_, refl, sym, ap, _∙_}
 use mathlib.Core.Logic.{_≢_}
 use mathlib.Core.Bool.{true, true≢false}
 use lib.ListN.{length}
-use borrow.Author.Tests.{eq-eqb, ne-eqb}
+use borrow.Author.Tests.{ne-eqb}
 use Rattle.formats.specs.declared.facts.ContentId.{ContentId}
 use Rattle.formats.specs.declared.facts.EntryNumber.{EntryNumber}
 use Rattle.formats.specs.declared.facts.Facts.{Facts}
@@ -31,7 +31,7 @@ module _ (k : Request) (b : Buffers) {w : ℕ} (e : w ≡ refusal k b) where
   -- done, its effect is there
   pub done : {after : Buffers} → w ≡ 0 → after ≡ effect k b → Answers k b 0 after
   unfolding perform
-  done {after} zero same = simp (eq-eqb (refusal k b) 0 (sym e ∙ zero), sym e ∙ zero, same)
+  done {after} zero same = simp (sym e ∙ zero, same)
 
   -- and its needs are met
   pub accepted : w ≡ 0 → Needs k b

@@ -1,4 +1,4 @@
--- The number of copies that a tally lends a place for.
+-- The place that a tally is lent for the number of copies.
 use Prim.Native.Nat.{ℕ}
 use lib.ListN.{getD}
 use Rattle.formats.specs.Answer.{Answer}

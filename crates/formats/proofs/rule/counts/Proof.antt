@@ -1,9 +1,9 @@
 -- `formats::rule::counts` meets its contract.
 -- Assumes nothing.
 use Prim.Native.Nat.{ℕ, _+_, _*_, _%_, _^_, _<_}
-use mathlib.Core.Path.{_≡_, ap, ap₂, _∙_}
+use mathlib.Core.Path.{_≡_, ap₂, _∙_}
 use native.Mathlib.Omega.{arith}
-use lib.Bits.{bitAnd, bitOr, or-shifted}
+use lib.Bits.{bitOr, or-shifted}
 use lib.Dec.{lit≤}
 use lib.Pow.{shl-exact}
 use Rattle.formats.proofs.Bits.{low-one, low-four}

@@ -5,7 +5,6 @@ use mathlib.Core.Path.{ap, _∙_}
 use Rattle.formats.proofs.entry.Laws.{same-kind}
 use Rattle.formats.proofs.row.Laws.{same-state}
 use Rattle.calls.specs.Buffers.{stateIn, isFull, isAway}
-use Rattle.calls.specs.Conditions.{mayNotMove}
 use Rattle.calls.proofs.Refusals.{hit, skip, end}
 use Rattle.refusals.proofs.Stages.{told, denied, hash-other, hash-same, or-first, or-next}
 use Rattle.refusals.proofs.move_out.state.Statement.{statement}

@@ -1,6 +1,6 @@
 -- `tables::card::leaves_key` meets its contract.
 -- Assumes nothing.
-use Prim.Native.Nat.{ℕ, _%_, _^_}
+use Prim.Native.Nat.{_%_, _^_}
 use mathlib.Core.Path.{ap}
 use lib.Dec.{eqb}
 use borrow.Author.Needs.{needs}

@@ -1,12 +1,11 @@
 -- `tables::copies::count` meets its contract: the loop counts the copies among the entries before the next three.
 -- Assumes nothing.
-use Prim.Native.Nat.{ℕ, _+_, _-_, _*_, _≤_}
+use Prim.Native.Nat.{ℕ, _+_, _-_, _*_}
 use mathlib.Core.Path.{_≡_, sym, ap, _∙_}
 use mathlib.Core.Logic.{⊎-elim}
 use native.Mathlib.Omega.{arith}
-use borrow.Author.Needs.{needs}
-use Rattle.calls.specs.Buffers.{copies, one}
-use Rattle.tables.specs.Copies.{copyAt, inThree}
+use Rattle.calls.specs.Buffers.{copies}
+use Rattle.tables.specs.Copies.{copyAt}
 use Rattle.tables.proofs.Counting.{Counted, start, done, moved}
 use Rattle.tables.proofs.Three.{at-most-three, passed, added}
 use Rattle.tables.proofs.copies.count.Statement.{statement}

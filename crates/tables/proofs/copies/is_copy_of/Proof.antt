@@ -1,7 +1,7 @@
 -- `tables::copies::is_copy_of` meets its contract.
 -- Assumes nothing.
 use mathlib.Core.Path.{sym, ap, _∙_}
-use mathlib.Core.Bool.{Bool, not}
+use mathlib.Core.Bool.{not}
 use borrow.Author.Needs.{needs}
 use Rattle.formats.proofs.half.Laws.{below-one, above-most}
 use Rattle.tables.proofs.Counting.{not-held, other-id, reserved, by-rule}

@@ -7,7 +7,6 @@ use mathlib.Core.List.{List}
 use native.Mathlib.Omega.{arith}
 use lib.ListN.{length}
 use borrow.Author.Tests.{eq-eqb, ne-eqb}
-use borrow.Author.Needs.{needs}
 use Rattle.formats.specs.Half.{flaggedWith}
 use Rattle.calls.specs.Buffers.{titleAt}
 use Rattle.tables.specs.Copies.{mayHold}
