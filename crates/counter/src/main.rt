@@ -4,7 +4,8 @@ ghost use mathlib.Core.Path.{_≡_};
 ghost use Rattle.calls.specs.Buffers.{lent};
 ghost use Rattle.music_counter.specs.Serve.{streamOf, carriedOut};
 use music_counter::serve;
-use music_counter::serve::Served;
+use requests::request;
+use requests::request::RequestRead;
 use tables::format;
 
 fn line(kind: u64, answer: u64) {
@@ -19,14 +20,16 @@ fn lines(ledger: &mut [u8], titles: &mut [u8], rules: &mut [u8], s: &[u8]) -> u6
     ensures { λ r. ⌜ r ≡ streamOf (now (s .entry)) .stop ⌝ }
     ensures { λ _. ⌜ lent (now (ledger .exit)) (now (titles .exit)) (now (rules .exit)) ≡ carriedOut (streamOf (now (s .entry)) .requests) (lent (now (ledger .entry)) (now (titles .entry)) (now (rules .entry))) ⌝ }
 {
-    let mut at: usize = 0;
-    while at < s.len() {
-        let served = serve::next(ledger, titles, rules, &s[at..]);
-        let Served::Answered { kind, answer, len } = served else {
-            return serve::number(served);
+    let mut rest = s;
+    while rest.len() != 0 {
+        let found = request::read(rest);
+        let RequestRead::Read { request, len: _ } = found else {
+            return request::number(found);
         };
-        line(kind, answer);
-        at += len;
+        let answer = serve::perform(ledger, titles, rules, request);
+        line(request::kind(request), answer);
+        let unread = request::remainder(rest, found);
+        rest = unread;
     }
     0
 }

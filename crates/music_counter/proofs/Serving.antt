@@ -1,25 +1,20 @@
 -- A stream of requests: one after another, to its end or to its first fault.
 -- Assumes nothing.
-use Prim.Native.Nat.{ℕ, zero, suc, _+_, _-_, _≤_, _<_}
-use mathlib.Core.Path.{_≡_, refl, sym, ap, ap₂, _∙_}
+use Prim.Native.Nat.{ℕ, zero, suc, _≤_, _<_}
+use mathlib.Core.Path.{_≡_, refl, sym, ap, _∙_}
 use mathlib.Core.List.{List, [], _∷_}
 use native.Mathlib.Omega.{arith}
-use lib.ListN.{length, take, drop, length-drop}
-use lib.Seq.{drop-drop}
-use Rattle.requests.specs.Request.{kindOf, readRequest}
+use lib.ListN.{length, drop, length-drop}
+use Rattle.requests.specs.Request.{readRequest, requestAnswer}
 use Rattle.requests.specs.declared.request.Request.{Request}
 use Rattle.requests.specs.declared.request.RequestRead.{RequestRead}
 use Rattle.requests.specs.declared.request.RequestRead.the-variants.{Read, Refused as Faulty}
-use Rattle.formats.specs.Part.{part}
-use Rattle.formats.proofs.Part.{part-rest}
-use Rattle.requests.proofs.request.Laws.{request-form}
-use Rattle.requests.proofs.request.Reading.{lent-rest}
+use Rattle.requests.proofs.request.Laws.{request-form, same-request}
 use Rattle.calls.specs.Buffers.{Buffers}
-use Rattle.calls.specs.Perform.{Performed, perform}
+use Rattle.calls.specs.Perform.{Performed}
+use Rattle.calls.proofs.InBounds.{in-bounds}
 use Rattle.music_counter.specs.Answer.{Answers}
-use Rattle.music_counter.specs.Serve.{servedNumber, servedBy, leftBy, unread, Stream, further, readStream, streamOf, carriedOut}
-use Rattle.music_counter.specs.declared.serve.Served.{Served}
-use Rattle.music_counter.specs.declared.serve.Served.the-variants.{Answered, Refused}
+use Rattle.music_counter.specs.Serve.{Stream, further, readStream, streamOf, carriedOut}
 
 -- THE STREAM, request by request
 
@@ -68,95 +63,56 @@ stream-next (b ∷ s) {q} {k} e =
 
 -- SERVING IT
 
--- the requests before place `at` are carried out: serving the rest from here comes to what serving all comes to
-pub record Serving (s : List ℕ) (before : Buffers) (at : ℕ) (b : Buffers) : Type 0 where
-  pub within : at ≤ length s
-  pub stops : streamOf (drop at s) .stop ≡ streamOf s .stop
-  pub leaves : carriedOut (streamOf (drop at s) .requests) b ≡ carriedOut (streamOf s .requests) before
+-- requests of s are carried out from `before`, the bytes `rest` are unread and the buffers are b: serving the rest comes to what
+-- serving all comes to
+pub record Serving (s : List ℕ) (before : Buffers) (rest : List ℕ) (b : Buffers) : Type 0 where
+  pub stops : streamOf rest .stop ≡ streamOf s .stop
+  pub leaves : carriedOut (streamOf rest .requests) b ≡ carriedOut (streamOf s .requests) before
+  pub ledger-length : length (b .ledger) ≡ length (before .ledger)
+  pub titles-length : length (b .titles) ≡ length (before .titles)
+  pub rules-length : length (b .rules) ≡ length (before .rules)
 
-pub start : (s : List ℕ) (b : Buffers) → Serving s b 0 b
-start s b = record { within = omega arith; stops = refl; leaves = refl }
+pub start : (s : List ℕ) (b : Buffers) → Serving s b s b
+start s b = record { stops = refl; leaves = refl; ledger-length = refl; titles-length = refl; rules-length = refl }
 
--- what a served request tells of the bytes it was read from
-lengthOf : Served → ℕ
-lengthOf (Answered kind answer k) = suc k
-lengthOf (Refused w) = 0
+-- what is promised of serving all: the answer and the buffers
+abbrev Promised : List ℕ → Buffers → ℕ → Buffers → Type 0
+Promised s before r b = (r ≡ streamOf s .stop) × (b ≡ carriedOut (streamOf s .requests) before)
 
-module _ {s : List ℕ} {before : Buffers} {at : ℕ} {b : Buffers} (r : Serving s before at b) where
-  -- nothing is left
-  pub finished : length s ≤ at → (0 ≡ streamOf s .stop) × (b ≡ carriedOut (streamOf s .requests) before)
+module _ {s : List ℕ} {before : Buffers} {rest : List ℕ} {b : Buffers} (r : Serving s before rest b) where
+  -- the stream of the rest has no request
+  ended : {w : ℕ} → streamOf rest ≡ record { requests = []; stop = w } → Promised s before w b
   unfolding carriedOut
-  finished h =
-      let e = stream-ends (drop at s) (omega (arith, length-drop at s)) in
-      (ap (λ (t : Stream). t .stop) (sym e) ∙ r .stops, ap (λ (t : Stream). carriedOut (t .requests) b) (sym e) ∙ r .leaves)
+  ended e = (ap (λ (t : Stream). t .stop) (sym e) ∙ r .stops, ap (λ (t : Stream). carriedOut (t .requests) b) (sym e) ∙ r .leaves)
 
-  -- the next request was served
-  pub served : (x : RequestRead) → readRequest (drop at s) ≡ x → {kind answer k : ℕ} → servedBy x b ≡ Answered kind answer k
-      → Serving s before (at + k) (leftBy x b) × (0 < k)
-  unfolding carriedOut lengthOf
-  served (Faulty w) e {k = k} f = absurd (let z : _≡_ {A = ℕ} 0 (suc k) = ap lengthOf f in omega arith)
-  served (Read q n) e {k = k} f =
-      let same : n ≡ k = (let z : _≡_ {A = ℕ} (suc n) (suc k) = ap lengthOf f in omega arith) in
-      let form = request-form (drop at s) e in
-      let next = stream-next (drop at s) e in
-      let rest = drop-drop n at s in
-      let it : Serving s before (at + n) (perform q b .buffers) =
-      record {
-        within = omega (arith, r .within, form .within, length-drop at s);
-        stops = ap (λ (l : List ℕ). streamOf l .stop) (sym rest) ∙ ap (λ (t : Stream). t .stop) (sym next) ∙ r .stops;
-        leaves =
-            ap (λ (l : List ℕ). carriedOut (streamOf l .requests) (perform q b .buffers)) (sym rest)
-            ∙ ap (λ (t : Stream). carriedOut (t .requests) b) (sym next)
-            ∙ r .leaves;
-      } in
-      (rw (sym same) it, omega (arith, form .positive))
+  -- nothing is left
+  pub finished : length rest ≡ 0 → Promised s before 0 b
+  finished h = ended (stream-ends rest (omega arith))
 
-  -- the next request could not be read
-  pub faulted : at < length s → (x : RequestRead) → readRequest (drop at s) ≡ x → {w : ℕ} → servedBy x b ≡ Refused w
-      → (w ≡ streamOf s .stop) × (leftBy x b ≡ carriedOut (streamOf s .requests) before)
-  unfolding carriedOut lengthOf
-  faulted h (Read q n) e {w} f = absurd (let z : _≡_ {A = ℕ} (suc n) 0 = ap lengthOf f in omega arith)
-  faulted h (Faulty v) e {w} f =
-      let same : v ≡ w = ap servedNumber f in
-      let last = stream-fault (drop at s) (omega (arith, length-drop at s)) e in
-      (sym same ∙ ap (λ (t : Stream). t .stop) (sym last) ∙ r .stops, ap (λ (t : Stream). carriedOut (t .requests) b) (sym last) ∙ r .leaves)
+  -- x was read at the front of the rest
+  module _ {x : RequestRead} (read : requestAnswer x ≡ requestAnswer (readRequest rest)) where
+    found : {y : RequestRead} → x ≡ y → readRequest rest ≡ y
+    found e = sym (same-request read) ∙ e
 
-  -- the same of a request that was served from the bytes from place `at` on, lent as `&s[at..]`
-  module _ (inside : at < length s) {v : Served} {after : Buffers}
-      (e : (v ≡ servedBy (readRequest (take (length s - at) (drop at s))) b) × (after ≡ leftBy (readRequest (take (length s - at) (drop at s))) b)) where
-    rest : take (length s - at) (drop at s) ≡ drop at s
-    rest = lent-rest s at (omega arith)
+    -- it is a refusal
+    pub faulted : (length rest ≡ 0 → ⊥) → {w n : ℕ} → x ≡ Faulty w → n ≡ requestAnswer x .number → Promised s before n b
+    faulted h e d = rw (d ∙ ap (λ (y : RequestRead). requestAnswer y .number) e) (ended (stream-fault rest (omega arith) (found e)))
 
-    here : v ≡ servedBy (readRequest (drop at s)) b
-    here = e .0 ∙ ap (λ (l : List ℕ). servedBy (readRequest l) b) rest
+    -- it is a request, which was carried out, and the bytes after it are unread
+    module _ {q : Request} {k : ℕ} (e : x ≡ Read q k) {unread : List ℕ} (after-it : unread ≡ drop k rest) where
+      pub fewer : length unread < length rest
+      fewer = rw after-it (shorter rest (found e))
 
-    left : after ≡ leftBy (readRequest (drop at s)) b
-    left = e .1 ∙ ap (λ (l : List ℕ). leftBy (readRequest l) b) rest
-
-    pub next-served : {kind answer k : ℕ} → v ≡ Answered kind answer k → Serving s before (at + k) after × (0 < k)
-    next-served {k = k} f =
-        let (it, some) = served (readRequest (drop at s)) refl (sym here ∙ f) in
-        (rw left it, some)
-
-    pub next-faulted : {w n : ℕ} → v ≡ Refused w → n ≡ servedNumber v → (n ≡ streamOf s .stop) × (after ≡ carriedOut (streamOf s .requests) before)
-    next-faulted f d =
-        let (stop, all) = faulted inside (readRequest (drop at s)) refl (sym here ∙ f) in
-        (d ∙ ap servedNumber f ∙ stop, left ∙ all)
-
--- ONE REQUEST
-
--- it was read, and carried out
-pub served-as : (b : Buffers) (x : RequestRead) {q : Request} {k : ℕ} → x ≡ Read q k → {kind answer : ℕ} {after : Buffers} → kind ≡ kindOf q → Answers q b answer after
-    → (Answered kind answer k ≡ servedBy x b) × (after ≡ leftBy x b)
-served-as b x {q} {k} e d made = (
-  ap₂ (λ (n : ℕ) (p : Performed). Answered n (p .answer) k) d made ∙ ap (λ (y : RequestRead). servedBy y b) (sym e),
-  ap (λ (p : Performed). p .buffers) made ∙ ap (λ (y : RequestRead). leftBy y b) (sym e),
-)
-
--- it could not be read, and was set aside
-pub set-aside : (b : Buffers) (x : RequestRead) {w n : ℕ} → x ≡ Faulty w → n ≡ w → (Refused n ≡ servedBy x b) × (b ≡ leftBy x b)
-set-aside b x e d = (ap Refused d ∙ ap (λ (y : RequestRead). servedBy y b) (sym e), ap (λ (y : RequestRead). leftBy y b) (sym e))
-
--- the bytes after it
-pub rest-of : (s : List ℕ) {x : List ℕ} {v : Served} {kind answer k : ℕ} → v ≡ Answered kind answer k → x ≡ part s k (length s) → x ≡ unread s v
-rest-of s {k = k} e q = q ∙ part-rest k (length s) s (omega arith) ∙ ap (unread s) (sym e)
+      pub served : {answer : ℕ} {after : Buffers} → Answers q b answer after → Serving s before unread after
+      unfolding carriedOut
+      served made =
+          let next = stream-next rest (found e) in
+          let kept = in-bounds q b in
+          rw (after-it, ap (λ (p : Performed). p .buffers) made)
+          (record {
+            stops = ap (λ (t : Stream). t .stop) (sym next) ∙ r .stops;
+            leaves = ap (λ (t : Stream). carriedOut (t .requests) b) (sym next) ∙ r .leaves;
+            ledger-length = kept .ledger-length ∙ r .ledger-length;
+            titles-length = kept .titles-length ∙ r .titles-length;
+            rules-length = kept .rules-length ∙ r .rules-length;
+          })

@@ -1,40 +1,26 @@
--- `music_counter::serve::all` meets its contract: the requests before place `at` are carried out.
+-- `music_counter::serve::all` meets its contract: what is unread shrinks, and what was read is carried out.
 -- Assumes nothing.
-use Prim.Native.Nat.{_-_}
-use mathlib.Core.Path.{_≡_, refl}
-use native.Mathlib.Omega.{arith}
 use lib.ListN.{length}
 use borrow.Author.Needs.{needs}
 use Rattle.calls.specs.Buffers.{lent}
-use Rattle.music_counter.proofs.Serving.{Serving, start, finished, next-served, next-faulted}
+use Rattle.music_counter.proofs.Serving.{Serving, start, finished, faulted, fewer, served}
 use Rattle.music_counter.proofs.serve.all.Statement.{statement}
 use Rattle.music_counter.proofs.serve.all.Tie as tie
 
 abbrev Inv-loop : tie.InvT-loop
-Inv-loop ledger₀ titles₀ rules₀ s at₀ ledger titles rules at =
-    Serving s (lent ledger₀ titles₀ rules₀) at (lent ledger titles rules)
-    × (length ledger ≡ length ledger₀) × (length titles ≡ length titles₀) × (length rules ≡ length rules₀)
+Inv-loop ledger₀ titles₀ rules₀ s rest₀ ledger titles rules rest = Serving s (lent ledger₀ titles₀ rules₀) rest (lent ledger titles rules)
 
 abbrev μ-loop : tie.MeasureT-loop
-μ-loop ledger₀ titles₀ rules₀ s at₀ ledger titles rules at = length s - at
+μ-loop ledger₀ titles₀ rules₀ s rest₀ ledger titles rules rest = length rest
 
 loop-holds : tie.Need-loop-holds Inv-loop μ-loop
-loop-holds c = (start _ _, refl, refl, refl)
+loop-holds c = start _ _
 
-sub-next : tie.Need-sub-next Inv-loop μ-loop
-sub-next c = search needs
+read-requires : tie.Need-read-requires Inv-loop μ-loop
+read-requires c κs = search needs
 
-part-next-start : tie.Need-part-next-start Inv-loop μ-loop
-part-next-start c = search needs
-
-part-next-end : tie.Need-part-next-end Inv-loop μ-loop
-part-next-end c = search needs
-
-next-requires : tie.Need-next-requires Inv-loop μ-loop
-next-requires c κs = search needs
-
-enum-known-served : tie.Need-enum-known-served Inv-loop μ-loop
-enum-known-served c = search needs
+enum-known-found : tie.Need-enum-known-found Inv-loop μ-loop
+enum-known-found c = search needs
 
 enum-told : tie.Need-enum-told Inv-loop μ-loop
 enum-told c = search needs
@@ -43,52 +29,50 @@ number-requires : tie.Need-number-requires Inv-loop μ-loop
 number-requires c κs = search needs
 
 same-length : tie.Need-same-length Inv-loop μ-loop
-same-length c =
-    omega (arith, c .before .before .before .before .before .before .before .before .ledger .given, c .before .before .before .before .before .before .before .before .before .before .before .before .before .before .before .loop .inv .1)
+same-length c = c .before .before .before .before .before .loop .inv .ledger-length
 
 same-length-2 : tie.Need-same-length-2 Inv-loop μ-loop
-same-length-2 c =
-    omega (arith, c .before .before .before .before .before .before .titles .given, c .before .before .before .before .before .before .before .before .before .before .before .before .before .before .before .loop .inv .2)
+same-length-2 c = c .before .before .before .before .before .loop .inv .titles-length
 
 same-length-3 : tie.Need-same-length-3 Inv-loop μ-loop
-same-length-3 c =
-    omega (arith, c .before .before .before .before .rules .given, c .before .before .before .before .before .before .before .before .before .before .before .before .before .before .before .loop .inv .3)
+same-length-3 c = c .before .before .before .before .before .loop .inv .rules-length
 
 returns : tie.Need-returns Inv-loop μ-loop
 returns c =
-    next-faulted (c .before .before .before .before .before .before .before .before .before .before .before .before .before .before .before .loop .inv .0) (c .before .before .before .before .before .before .before .before .before .before .before .before .before .before .loop-test .taken) (c .before .before .before .before .before .before .before .before .before .next .ensures) (c .before .enum-told .given .1) (c .number .ensures)
+    let f = c .before .before .before in
+    faulted (f .before .before .loop .inv) (f .read .ensures) (f .before .loop-test .taken) (c .before .enum-told .given .1) (c .number .ensures)
 
-add-at : tie.Need-add-at Inv-loop μ-loop
-add-at c =
-    let it = next-served (c .before .before .before .before .before .before .before .before .before .before .before .before .before .before .before .loop .inv .0) (c .before .before .before .before .before .before .before .before .before .before .before .before .before .before .loop-test .taken) (c .before .before .before .before .before .before .before .before .before .next .ensures) (c .before .served .given .1) in
-    omega (arith, it .0 .within)
+perform-requires : tie.Need-perform-requires Inv-loop μ-loop
+perform-requires c κs = search needs
+
+remainder-requires : tie.Need-remainder-requires Inv-loop μ-loop
+remainder-requires c κs = search needs
 
 loop-less : tie.Need-loop-less Inv-loop μ-loop
 loop-less c =
-    let it = next-served (c .before .before .before .before .before .before .before .before .before .before .before .before .before .before .before .loop .inv .0) (c .before .before .before .before .before .before .before .before .before .before .before .before .before .before .loop-test .taken) (c .before .before .before .before .before .before .before .before .before .next .ensures) (c .before .served .given .1) in
-    omega (arith, it .0 .within, it .1)
+    let p = c .before .before .before .before .before .before .before in
+    let f = p .before .before .before .before .before in
+    let read = f .before .before in
+    fewer (read .before .before .loop .inv) (read .read .ensures) (f .found .given .1) (c .remainder .ensures)
 
 loop-again : tie.Need-loop-again Inv-loop μ-loop
 loop-again c =
-    let it = next-served (c .before .before .before .before .before .before .before .before .before .before .before .before .before .before .before .loop .inv .0) (c .before .before .before .before .before .before .before .before .before .before .before .before .before .before .loop-test .taken) (c .before .before .before .before .before .before .before .before .before .next .ensures) (c .before .served .given .1) in
-    let i = c .before .before .before .before .before .before .before .before .before .before .before .before .before .before .before .loop .inv in
-    (it .0, omega (arith, c .before .before .before .before .before .before .before .before .ledger .given, i .1), omega (arith, c .before .before .before .before .before .before .titles .given, i .2), omega (arith, c .before .before .before .before .rules .given, i .3))
+    let p = c .before .before .before .before .before .before .before in
+    let f = p .before .before .before .before .before in
+    let read = f .before .before in
+    served (read .before .before .loop .inv) (read .read .ensures) (f .found .given .1) (c .remainder .ensures) (p .perform .ensures)
 
 same-length-4 : tie.Need-same-length-4 Inv-loop μ-loop
-same-length-4 c =
-    c .before .loop .inv .1
+same-length-4 c = c .before .loop .inv .ledger-length
 
 same-length-5 : tie.Need-same-length-5 Inv-loop μ-loop
-same-length-5 c =
-    c .before .loop .inv .2
+same-length-5 c = c .before .loop .inv .titles-length
 
 same-length-6 : tie.Need-same-length-6 Inv-loop μ-loop
-same-length-6 c =
-    c .before .loop .inv .3
+same-length-6 c = c .before .loop .inv .rules-length
 
 returns-2 : tie.Need-returns-2 Inv-loop μ-loop
-returns-2 c =
-    finished (c .before .loop .inv .0) (c .loop-test .left)
+returns-2 c = finished (c .before .loop .inv) (c .loop-test .left)
 
 pub all-spec : {M : Type 1} → statement M
 all-spec =
@@ -97,18 +81,16 @@ all-spec =
     Inv-loop
     μ-loop
     loop-holds
-    sub-next
-    part-next-start
-    part-next-end
-    next-requires
-    enum-known-served
+    read-requires
+    enum-known-found
     enum-told
     number-requires
     same-length
     same-length-2
     same-length-3
     returns
-    add-at
+    perform-requires
+    remainder-requires
     loop-less
     loop-again
     same-length-4
