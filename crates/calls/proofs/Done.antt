@@ -196,7 +196,7 @@ module _ (b : Buffers) (are-bytes : AreBytes b) where
       let o = on-card (Record c j f h) b n in
       let g = n .facts in
       record {
-        row = row-is (b .ledger) (c .0) (its-row (Record c j f h) b n) (plainRow 2) (plain-length 2) _ _ Away state-plain-away;
+        row = row-is (b .ledger) (c .0) (its-row (Record c j f h) b n) _ (plain-length _) _ _ Away state-plain-away;
         entry =
             full-entry _ (j .0) (c .0) f h (n .content) (to-ranges g) (g .title-key) (g .sti-key)
             (title-is b (j .0) o _ (length-titleHalf (f .cci) (f .«title_key») (c .0))) (rule-is b (j .0) o _ (length-ruleHalf f h (c .0)));
@@ -250,7 +250,7 @@ module _ (b : Buffers) (are-bytes : AreBytes b) where
       let it = full-entry _ (j .0) (c .0) f h (n .content) (after-move-ranges (rowFacts b (c .0)) (i .in-ranges)) (keys .0) (keys .1)
       (title-is b (j .0) o _ (length-titleHalf (f .cci) (f .«title_key») (c .0))) (rule-is b (j .0) o _ (length-ruleHalf f h (c .0))) in
       record {
-        row = row-is (b .ledger) (c .0) (i .is-row) (plainRow 2) (plain-length 2) _ _ Away state-plain-away;
+        row = row-is (b .ledger) (c .0) (i .is-row) _ (plain-length _) _ _ Away state-plain-away;
         entry = subst (λ (x : Facts). FullEntry (effect (MoveIn c j h) b) (j .0) (c .0) x h) (sym (it .facts)) it;
         facts = recounted-move (rowFacts b (c .0)) (it .facts);
       }
@@ -267,7 +267,7 @@ module _ (b : Buffers) (are-bytes : AreBytes b) where
               | a-holder full away key ↦
                   rw (ap isFull k)
                   record {
-                    row = row-is (b .ledger) c (row-in b c Away refl (n .heads .ledger) away) (plainRow 3) (plain-length 3) _ _ Gone state-plain-gone;
+                    row = row-is (b .ledger) c (row-in b c Away refl (n .heads .ledger) away) _ (plain-length _) _ _ Gone state-plain-gone;
                     free = free-full b (j .0) o f;
                     title = title-wiped b (j .0) o (f .f1) _ _ (n .title-key);
                     rule = rule-half-wiped b (j .0) o f _ _ key;

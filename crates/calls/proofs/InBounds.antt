@@ -26,6 +26,11 @@ use Rattle.calls.specs.Perform.{perform, AreBytes, InBounds, Demand1Call
 use Rattle.calls.proofs.Refusals.{either-way, call-refused-first}
 use Rattle.calls.proofs.Untouched.{untouched}
 
+-- one of two buffers
+one-of : (x : Bool) {b c : Buffers} → AreBytes b → AreBytes c → AreBytes (cond x b c)
+one-of true p q = p
+one-of false p q = q
+
 module _ (b : Buffers) (bytes : AreBytes b) where
   -- a row, a title half or a rule half written
   row : (c : ℕ) (p : List ℕ) → Bytes p → Bytes (put (b .ledger) (24 * c) p)
@@ -51,7 +56,7 @@ module _ (b : Buffers) (bytes : AreBytes b) where
   filled : (c j : ℕ) (f : Facts) (h : ℕ) → AreBytes (writeEntry c j f h (withRow c (plainRow 2) b))
   filled c j f h =
       record {
-        ledger = row c (plainRow 2) (plain-bytes 2 (lit< tt));
+        ledger = row c _ (plain-bytes _ (lit< tt));
         titles = title j _ (title-bytes (f .cci) (f .«title_key») c);
         rules = rule j _ (rule-bytes f h c);
       }
@@ -77,12 +82,10 @@ module _ (b : Buffers) (bytes : AreBytes b) where
         rules = rule-wiped (j .0) f;
       }
   effect-bytes (MoveIn c j h) = filled (c .0) (j .0) (afterMove (rowFacts b (c .0))) h
-  effect-bytes (Delete j f) = by (isFull (kindAt b (j .0)))
-    where
-      by : (x : Bool) → AreBytes (cond x (wipeEntry (j .0) f (withRow (contentAt b (j .0)) (plainRow 3) b)) (wipeTitle (j .0) (f .f1) b))
-      by true =
-          record { ledger = row (contentAt b (j .0)) (plainRow 3) (plain-bytes 3 (lit< tt)); titles = title-wiped (j .0) (f .f1); rules = rule-wiped (j .0) f }
-      by false = record { ledger = bytes .ledger; titles = title-wiped (j .0) (f .f1); rules = bytes .rules }
+  effect-bytes (Delete j f) =
+      one-of (isFull (kindAt b (j .0)))
+      (record { ledger = row (contentAt b (j .0)) _ (plain-bytes _ (lit< tt)); titles = title-wiped (j .0) (f .f1); rules = rule-wiped (j .0) f })
+      (record { ledger = bytes .ledger; titles = title-wiped (j .0) (f .f1); rules = bytes .rules })
 
 -- Demand 1: every call, done or refused, "ends in bounds"
 pub in-bounds : (k : Request) (b : Buffers) → InBounds b (perform k b .buffers)

@@ -70,7 +70,7 @@ module _ (b : Buffers) where
   effect-keeps (Record c j f h) n =
       let o = on-card (Record c j f h) b n in
       record {
-        rows = row-kept (c .0) _ (its-row (Record c j f h) b n) (plain-length 2);
+        rows = row-kept (c .0) _ (its-row (Record c j f h) b n) (plain-length _);
         titles = title-kept (j .0) _ o (length-titleHalf (f .cci) (f .«title_key») (c .0));
         rules = rule-kept (j .0) _ o (length-ruleHalf f h (c .0));
       }
@@ -102,7 +102,7 @@ module _ (b : Buffers) where
       let o = on-card (MoveIn c j h) b n in
       let f = afterMove (rowFacts b (c .0)) in
       record {
-        rows = row-kept (c .0) _ (its-row (MoveIn c j h) b n) (plain-length 2);
+        rows = row-kept (c .0) _ (its-row (MoveIn c j h) b n) (plain-length _);
         titles = title-kept (j .0) _ o (length-titleHalf (f .cci) (f .«title_key») (c .0));
         rules = rule-kept (j .0) _ o (length-ruleHalf f h (c .0));
       }
@@ -114,7 +114,7 @@ module _ (b : Buffers) where
         | a-copy k ↦ record { rows = rw (ap isFull k) (all-kept 24 none (b .ledger)); titles = rw (ap isFull k) title; rules = rw (ap isFull k) (all-kept 32 none (b .rules)) }
         | a-holder k away key ↦
             record {
-              rows = rw (ap isFull k) (row-kept c _ (row-in b c Away refl (n .heads .ledger) away) (plain-length 3));
+              rows = rw (ap isFull k) (row-kept c _ (row-in b c Away refl (n .heads .ledger) away) (plain-length _));
               titles = rw (ap isFull k) title;
               rules = rw (ap isFull k) (rule-kept (j .0) _ o (wiped-rule-long b (j .0) o f));
             }
