@@ -1,9 +1,9 @@
 -- What a call has left, from what its writers left.
 -- Assumes nothing.
 use Prim.Native.Nat.{ℕ, _*_}
-use mathlib.Core.Path.{_≡_, refl, sym, ap, ap₂, _∙_}
-use mathlib.Core.List.{List, []}
-use mathlib.Core.Bool.{Bool, true, false, cond}
+use mathlib.Core.Path.{_≡_, refl, ap, ap₂, _∙_}
+use mathlib.Core.List.{List}
+use mathlib.Core.Bool.{true, false}
 use Rattle.formats.specs.Part.{put}
 use Rattle.formats.specs.Half.{idOf, wiped}
 use Rattle.formats.specs.Title.{titleHalf}
