@@ -41,17 +41,17 @@ enough (suc n) zero (b ∷ s) p q = absurd (omega arith)
 enough (suc n) (suc m) [] p q = refl
 enough (suc n) (suc m) (b ∷ s) p q = same-further (readStream n) (readStream m) (b ∷ s) (λ t h. enough n m t (omega arith) (omega arith)) (readRequest (b ∷ s)) refl
 
-pub stream-ends : (s : List ℕ) → length s ≤ 0 → streamOf s ≡ record { requests = []; stop = 0 }
+stream-ends : (s : List ℕ) → length s ≤ 0 → streamOf s ≡ record { requests = []; stop = 0 }
 unfolding streamOf readStream
 stream-ends [] h = refl
 stream-ends (b ∷ s) h = absurd (omega arith)
 
-pub stream-fault : (s : List ℕ) {w : ℕ} → 0 < length s → readRequest s ≡ Faulty w → streamOf s ≡ record { requests = []; stop = w }
+stream-fault : (s : List ℕ) {w : ℕ} → 0 < length s → readRequest s ≡ Faulty w → streamOf s ≡ record { requests = []; stop = w }
 unfolding streamOf readStream
 stream-fault [] h e = absurd (omega arith)
 stream-fault (b ∷ s) h e = ap (further (λ t. readStream (length s) t) (b ∷ s)) e
 
-pub stream-next : (s : List ℕ) {q : Request} {k : ℕ} → readRequest s ≡ Read q k
+stream-next : (s : List ℕ) {q : Request} {k : ℕ} → readRequest s ≡ Read q k
     → streamOf s ≡ record { requests = q ∷ streamOf (drop k s) .requests; stop = streamOf (drop k s) .stop }
 unfolding streamOf readStream
 stream-next [] {q} {k} e = absurd (let h = request-form [] e in omega (arith, h .within, h .positive))

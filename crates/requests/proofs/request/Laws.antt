@@ -48,12 +48,12 @@ limits-split a rest v vs e =
     ]
 
 -- what is known of values that were read in n bytes of s
-pub record Form (sch : List Argument) (s vs : List ℕ) (n : ℕ) : Type 0 where
-  pub within : n ≤ length s
-  pub size : length vs ≡ length sch
-  pub limits : firstLimit sch vs ≡ 0
-  pub form : Bytes s → take n s ≡ numbers vs
-  pub below : Bytes s → Below vs
+record Form (sch : List Argument) (s vs : List ℕ) (n : ℕ) : Type 0 where
+  within : n ≤ length s
+  size : length vs ≡ length sch
+  limits : firstLimit sch vs ≡ 0
+  form : Bytes s → take n s ≡ numbers vs
+  below : Bytes s → Below vs
 
 -- what is known of what reading arguments finds
 Good : List Argument → List ℕ → ArgumentsRead → Type 0
@@ -99,16 +99,13 @@ unfolding Good readArguments
 good [] s = form-none s
 good (a ∷ rest) s = good-next a rest s (readNumber s) refl (λ k. good rest (drop k s))
 
-pub arguments-form : (sch : List Argument) (s : List ℕ) {vs : List ℕ} {n : ℕ} → readArguments sch s ≡ Values vs n → Form sch s vs n
-unfolding Good
-arguments-form sch s e = rw e at (good sch s)
-
+-- no fault has the number 0
 pub fault-positive : (sch : List Argument) (s : List ℕ) {w : ℕ} → readArguments sch s ≡ Fault w → 0 < w
 unfolding Good
 fault-positive sch s e = rw e at (good sch s)
 
 -- reading written values, with anything after them, yields them and exactly their bytes
-pub reading-undoes-writing-arguments : (sch : List Argument) (vs t : List ℕ) → length vs ≡ length sch → firstLimit sch vs ≡ 0 → Below vs
+reading-undoes-writing-arguments : (sch : List Argument) (vs t : List ℕ) → length vs ≡ length sch → firstLimit sch vs ≡ 0 → Below vs
     → readArguments sch (numbers vs ++ t) ≡ Values vs (length (numbers vs))
 unfolding readArguments numbers
 reading-undoes-writing-arguments [] [] t e z b = refl
@@ -162,6 +159,7 @@ request-again (MoveOut j h f) = refl
 request-again (MoveIn c j h) = refl
 request-again (Delete j f) = refl
 
+-- the kind and the values make the request
 same-values : {q p : Request} → kindOf q ≡ kindOf p → valuesOf q ≡ valuesOf p → q ≡ p
 same-values {q} {p} k v = sym (request-again q) ∙ ap₂ requestOf k v ∙ request-again p
 

@@ -59,7 +59,7 @@ begin sch s e =
     }
 
 -- what is lent as `&s[k..]`
-pub lent-rest : (s : List ℕ) (k : ℕ) → k ≤ length s → take (length s - k) (drop k s) ≡ drop k s
+lent-rest : (s : List ℕ) (k : ℕ) → k ≤ length s → take (length s - k) (drop k s) ≡ drop k s
 lent-rest s k h = take-all (length s - k) (drop k s) (omega (arith, length-drop k s))
 
 -- what the reader of numbers found in the bytes after those used, which it is lent as `&s[used..]`
