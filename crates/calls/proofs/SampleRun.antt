@@ -61,6 +61,21 @@ free-after k b written p free i l ne =
     let other : titleWritten k ≢ some i = λ e. let same : _≡_ {A = ℕ} 7 i = cc in ne (sym same) in
     kind-else b (perform k b .buffers) (u .titles) (u .rules) (o .titles-long) (o .rules-long) i l other (rule-with-title k b i other) ∙ free i l ne
 
+-- a call that changes the permits of row 1 and entry 7 leaves the rest of it
+standing-after : (k : Request) (b : Buffers) {p q r : ℕ} → titleWritten k ≡ some 7 → Standing b p → PermitsBecome b (perform k b .buffers) 1 r → r ≡ q
+    → Standing (perform k b .buffers) q
+standing-after k b written i row e =
+    record {
+      bytes = in-bounds k b .stay-bytes (i .bytes);
+      heads = heads-kept k b (i .heads);
+      here = row .here;
+      trigger = row .facts .trigger ∙ i .trigger;
+      rights = row .facts .rights-are ∙ i .rights;
+      permits-are = row .facts .permits-are ∙ e;
+      title-key = row .facts .title-key ∙ i .title-key;
+      free = free-after k b written (i .heads) (i .free);
+    }
+
 -- CALL BY CALL
 
 -- from b, a call is answered n, and those after it as they are from what it leaves
@@ -119,18 +134,7 @@ checked-in b s =
     let l = w .leaves (i .bytes) n in
     let row : PermitsBecome b (perform checkIn b .buffers) 1 (oneMore (rowFacts b 1 .permits)) = rw (s .id) at (l .row) in
     then checkIn (moveIn ∷ []) b (w .done n)
-    (move-in-done (perform checkIn b .buffers)
-    (record {
-      bytes = in-bounds checkIn b .stay-bytes (i .bytes);
-      heads = heads-kept checkIn b (i .heads);
-      here = row .here;
-      trigger = row .facts .trigger ∙ i .trigger;
-      rights = row .facts .rights-are ∙ i .rights;
-      permits-are = row .facts .permits-are ∙ ap oneMore (i .permits-are);
-      title-key = row .facts .title-key ∙ i .title-key;
-      free = free-after checkIn b refl (i .heads) (i .free);
-    })
-    (l .free))
+    (move-in-done (perform checkIn b .buffers) (standing-after checkIn b refl i row (ap oneMore (i .permits-are))) (l .free))
 
 -- 6 move in, while the copy is out
 move-in-refused : (b : Buffers) → Lent b → perform moveIn b .answer ≡ 14
@@ -202,17 +206,7 @@ checked-out b i free-7 =
     let after = perform k b .buffers in
     let s : Lent after =
     record {
-      standing =
-          record {
-            bytes = in-bounds k b .stay-bytes (i .bytes);
-            heads = heads-kept k b (i .heads);
-            here = l .row .here;
-            trigger = l .row .facts .trigger ∙ i .trigger;
-            rights = l .row .facts .rights-are ∙ i .rights;
-            permits-are = l .row .facts .permits-are ∙ ap oneLess (i .permits-are);
-            title-key = l .row .facts .title-key ∙ i .title-key;
-            free = free-after k b refl (i .heads) (i .free);
-          };
+      standing = standing-after k b refl i (l .row) (ap oneLess (i .permits-are));
       copy = l .copy;
       id = l .id;
       key = l .title-key ∙ i .title-key;
