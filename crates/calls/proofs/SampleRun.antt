@@ -1,6 +1,7 @@
--- The paper's sample run, call by call: what each call needs is what the one before it left.
+-- The paper's sample run, and one in which each of the seven calls is done, call by call: what each call needs is what the one
+-- before it left.
 -- Assumes nothing.
-use Prim.Native.Nat.{ℕ}
+use Prim.Native.Nat.{ℕ, _≤_}
 use mathlib.Core.Path.{_≡_, refl, sym, ap, ap₂, _∙_}
 use mathlib.Core.Logic.{_≢_, inl, inr}
 use mathlib.Core.List.{List, [], _∷_}
@@ -8,37 +9,77 @@ use mathlib.Core.Option.{some}
 use native.Mathlib.Omega.{arith}
 use native.Mathlib.Decide.{ℕ-discrete}
 use borrow.Author.Tests.{eq-eqb, ne-eqb}
-use Rattle.formats.specs.Entry.{kindOf}
+use Rattle.formats.specs.Entry.{kindOf, entryFacts}
+use Rattle.formats.specs.Row.{hereRow}
 use Rattle.formats.specs.declared.facts.Facts.{Facts}
-use Rattle.formats.specs.declared.entry.EntryKind.the-variants.{Free, Copy}
-use Rattle.formats.specs.declared.row.RowState.the-variants.{Here}
+use Rattle.formats.specs.declared.entry.EntryKind.the-variants.{Free, Copy, Full}
+use Rattle.formats.specs.declared.row.RowState.the-variants.{Empty, Here, Away}
 use Rattle.requests.specs.declared.request.Request.{Request}
-use Rattle.calls.specs.Buffers.{Buffers, titleAt, ruleAt, stateAt, rowFacts, hereFacts, kindAt, contentAt, titleKey, isFree, isHere, fresh, Within}
+use Rattle.formats.proofs.head.Laws.{ledger-head}
+use Rattle.calls.specs.Buffers.{Buffers, titleAt, ruleAt, stateAt, rowFacts, hereFacts, kindAt, contentAt, factsAt, titleKey, stiKey, isFree, isHere, fresh, Within}
 use Rattle.calls.specs.Count.{oneLess, oneMore}
 use Rattle.calls.specs.Conditions.{conditions}
 use Rattle.calls.specs.Perform.{perform, answers, AreBytes}
-use Rattle.calls.specs.Needs.{HeadsPass, MayMove, Needs}
+use Rattle.calls.specs.Needs.{FactsInRange, HeadsPass, MayMove, a-copy, a-holder, Needs}
 use Rattle.calls.specs.Untouched.{titleWritten}
-use Rattle.calls.specs.Work.{PermitsBecome}
-use Rattle.calls.specs.SampleRun.{register, checkOut, checkIn, moveIn, SampleRun}
+use Rattle.calls.specs.Work.{RowIs, Recounted, PermitsBecome, FullEntry}
+use Rattle.calls.specs.SampleRun.{sampleFacts, twoMoves, registration, checkOut, checkIn, moveIn, recording, moveOut, deletion, SampleRun, EveryCallDone}
 use Rattle.calls.proofs.Refusals.{of-first, answer-first, unchanged, holds-not, fails-so}
 use Rattle.calls.proofs.Passed.{numbers, rules-right, moves, copy-counts, found}
-use Rattle.calls.proofs.Views.{kind-else}
+use Rattle.calls.proofs.Views.{row-else, kind-else}
 use Rattle.calls.proofs.Untouched.{untouched, rule-with-title, heads-kept}
 use Rattle.calls.proofs.InBounds.{in-bounds}
 use Rattle.calls.proofs.Done.{work-is-done}
 use Rattle.calls.proofs.Fresh.{fresh-empty, fresh-free, fresh-bytes, fresh-heads}
 
--- title 1 is in its row, with so many permits; no entry but 7 is in use
-record Standing (b : Buffers) (permits : ℕ) : Type 0 where
+-- WHAT THE CALLS FIND
+
+-- tables that are right, and no entry in use but 7
+record Open (b : Buffers) : Type 0 where
   bytes : AreBytes b
   heads : HeadsPass b
-  here : stateAt b 1 ≡ Here (rowFacts b 1)
-  trigger : rowFacts b 1 .trigger ≡ 0
-  rights : rowFacts b 1 .rights ≡ 1
-  permits-are : rowFacts b 1 .permits ≡ permits
-  title-key : rowFacts b 1 .«title_key» ≡ 5
   free : (i : ℕ) → Within 999 i → i ≢ 7 → kindAt b i ≡ Free
+
+-- title 1 has these facts, with one move right and so many permits
+record Title1 (f : Facts) (permits : ℕ) : Type 0 where
+  cci : f .cci ≡ 2
+  trigger : f .trigger ≡ 0
+  rights : f .rights ≡ 1
+  permits-are : f .permits ≡ permits
+  title-key : f .«title_key» ≡ 5
+  sti-key : f .«sti_key» ≡ 6
+
+-- title 1 is in its row
+record Standing (b : Buffers) (permits : ℕ) : Type 0 where
+  tables : Open b
+  here : stateAt b 1 ≡ Here (rowFacts b 1)
+  facts : Title1 (rowFacts b 1) permits
+
+-- no entry is in use
+record Home (b : Buffers) (permits : ℕ) : Type 0 where
+  standing : Standing b permits
+  free-7 : kindAt b 7 ≡ Free
+
+-- or entry 7 has its copy
+record Lent (b : Buffers) : Type 0 where
+  standing : Standing b 0
+  copy : kindAt b 7 ≡ Copy
+  id : contentAt b 7 ≡ 1
+  key : titleKey b 7 ≡ 5
+
+-- or the title is on the card, in entry 7 as it was recorded, or in entry 9
+record AtSeven (b : Buffers) : Type 0 where
+  tables : Open b
+  away : stateAt b 1 ≡ Away
+  entry : FullEntry b 7 1 twoMoves 3
+
+record AtNine (b : Buffers) : Type 0 where
+  heads : HeadsPass b
+  away : stateAt b 1 ≡ Away
+  full : kindAt b 9 ≡ Full
+  id : contentAt b 9 ≡ 1
+  title-key : titleKey b 9 ≡ 5
+  sti-key : stiKey b 9 ≡ 6
 
 one : Within 999 1
 one = record { from = omega arith; to = omega arith }
@@ -52,96 +93,295 @@ eight = record { from = omega arith; to = omega arith }
 nine : Within 999 9
 nine = record { from = omega arith; to = omega arith }
 
--- an entry other than 7 stays free where entry 7 is written
-free-after : (k : Request) (b : Buffers) → titleWritten k ≡ some 7 → HeadsPass b → ((i : ℕ) → Within 999 i → i ≢ 7 → kindAt b i ≡ Free)
-    → (i : ℕ) → Within 999 i → i ≢ 7 → kindAt (perform k b .buffers) i ≡ Free
-free-after k b written p free i l ne =
-    let o = found b i l p in
-    let u = untouched k b in
-    let other : titleWritten k ≢ some i = λ e. let same : _≡_ {A = ℕ} 7 i = cc in ne (sym same) in
-    kind-else b (perform k b .buffers) (u .titles) (u .rules) (o .titles-long) (o .rules-long) i l other (rule-with-title k b i other) ∙ free i l ne
+-- the tables stay right, and entries other than 7 free, where entry 7 is written
+open-after : (k : Request) (b : Buffers) → titleWritten k ≡ some 7 → Open b → Open (perform k b .buffers)
+open-after k b written o =
+    record { bytes = in-bounds k b .stay-bytes (o .bytes); heads = heads-kept k b (o .heads); free = λ i l ne. same i l ne ∙ o .free i l ne }
+  where
+    same : (i : ℕ) → Within 999 i → i ≢ 7 → kindAt (perform k b .buffers) i ≡ kindAt b i
+    same i l ne =
+        let c = found b i l (o .heads) in
+        let u = untouched k b in
+        let other : titleWritten k ≢ some i = λ e. let number : _≡_ {A = ℕ} 7 i = cc in ne (sym number) in
+        kind-else b (perform k b .buffers) (u .titles) (u .rules) (c .titles-long) (c .rules-long) i l other (rule-with-title k b i other)
 
--- a call that changes the permits of row 1 and entry 7 leaves the rest of it
-standing-after : (k : Request) (b : Buffers) {p q r : ℕ} → titleWritten k ≡ some 7 → Standing b p → PermitsBecome b (perform k b .buffers) 1 r → r ≡ q
-    → Standing (perform k b .buffers) q
-standing-after k b written i row e =
+-- title 1 with other permits
+with-permits : {f g : Facts} {p q r : ℕ} → Title1 f p → Recounted f (f .rights) r g → r ≡ q → Title1 g q
+with-permits f c e =
     record {
-      bytes = in-bounds k b .stay-bytes (i .bytes);
-      heads = heads-kept k b (i .heads);
-      here = row .here;
-      trigger = row .facts .trigger ∙ i .trigger;
-      rights = row .facts .rights-are ∙ i .rights;
-      permits-are = row .facts .permits-are ∙ e;
-      title-key = row .facts .title-key ∙ i .title-key;
-      free = free-after k b written (i .heads) (i .free);
+      cci = c .cci ∙ f .cci;
+      trigger = c .trigger ∙ f .trigger;
+      rights = c .rights-are ∙ f .rights;
+      permits-are = c .permits-are ∙ e;
+      title-key = c .title-key ∙ f .title-key;
+      sti-key = c .sti-key ∙ f .sti-key;
     }
 
--- CALL BY CALL
+-- it may move
+may-move-1 : {f : Facts} {p : ℕ} → Title1 f p → MayMove f
+may-move-1 f = record { not-triggered = λ e. omega (arith, f .trigger); right-left = λ e. omega (arith, f .rights) }
 
--- from b, a call is answered n, and those after it as they are from what it leaves
-then : (k : Request) (ks : List Request) (b : Buffers) {n : ℕ} {ns : List ℕ} → perform k b .answer ≡ n → answers ks (perform k b .buffers) ≡ ns
-    → answers (k ∷ ks) b ≡ n ∷ ns
+-- the keys of a full entry are in its halves
+keys-in : (b : Buffers) (j : ℕ) → (titleKey b j ≡ factsAt b j .«title_key») × (stiKey b j ≡ factsAt b j .«sti_key»)
+unfolding entryFacts
+keys-in b j = (refl, refl)
+
+-- EACH CALL
+
+-- the call is done, and leaves what the next one finds
+record Goes (k : Request) (b : Buffers) (P : Buffers → Type 0) : Type 0 where
+  done : perform k b .answer ≡ 0
+  after : P (perform k b .buffers)
+
+-- and so are those after it
+on : (k : Request) (ks : List Request) (b : Buffers) {P : Buffers → Type 0} {ns : List ℕ} → Goes k b P → ((c : Buffers) → P c → answers ks c ≡ ns) → answers (k ∷ ks) b ≡ 0 ∷ ns
 unfolding answers
-then k ks b e rest = ap₂ (λ (x : ℕ) (l : List ℕ). x ∷ l) e rest
+on k ks b g rest = ap₂ (λ (x : ℕ) (l : List ℕ). x ∷ l) (g .done) (rest (perform k b .buffers) (g .after))
 
 -- a refused call leaves what it found
-then-refused : (k : Request) (ks : List Request) (b : Buffers) {n : ℕ} {ns : List ℕ} → perform k b .answer ≡ n → n ≢ 0 → answers ks b ≡ ns
-    → answers (k ∷ ks) b ≡ n ∷ ns
-then-refused k ks b e other rest = then k ks b e (ap (answers ks) (unchanged k b (λ z. other (sym e ∙ z))) ∙ rest)
-
--- 6 move in to entry 9, with no copy out
-move-in-done : (b : Buffers) → Standing b 1 → kindAt b 7 ≡ Free → answers (moveIn ∷ []) b ≡ 0 ∷ []
+on-refused : (k : Request) (ks : List Request) (b : Buffers) {n : ℕ} {ns : List ℕ} → perform k b .answer ≡ n → n ≢ 0 → answers ks b ≡ ns → answers (k ∷ ks) b ≡ n ∷ ns
 unfolding answers
-move-in-done b s free-7 = then moveIn [] b (work-is-done moveIn b .done needs) refl
-  where
-    all-free : (i : ℕ) → Within 999 i → kindAt b i ≡ Free
-    all-free i l = elim (ℕ-discrete i 7) [ yes e ↦ rw e free-7 | no ne ↦ s .free i l ne ]
+on-refused k ks b e other rest = ap₂ (λ (x : ℕ) (l : List ℕ). x ∷ l) e (ap (answers ks) (unchanged k b (λ z. other (sym e ∙ z))) ∙ rest)
 
-    needs : Needs moveIn b
-    needs =
-        record {
-          content = one;
-          entry = nine;
-          heads = s .heads;
-          free = s .free 9 nine (λ e. omega arith);
-          here = s .here;
-          may-move = record { not-triggered = λ e. omega (arith, s .trigger); right-left = λ e. omega (arith, s .rights) };
-          no-copy = λ i l copy. let z : _≡_ {A = ℕ} 0 1 = cc (all-free i l) in absurd (omega arith);
-        }
+last : (k : Request) (b : Buffers) → perform k b .answer ≡ 0 → answers (k ∷ []) b ≡ 0 ∷ []
+unfolding answers
+last k b e = ap (λ (x : ℕ). x ∷ []) e
 
--- the title is lent: entry 7 has its copy
-record Lent (b : Buffers) : Type 0 where
-  standing : Standing b 0
-  copy : kindAt b 7 ≡ Copy
-  id : contentAt b 7 ≡ 1
-  key : titleKey b 7 ≡ 5
+-- 1 register, on a fresh ledger and card: its row is here, other rows are empty, and no entry is in use
+record Registered (c : ℕ) (f : Facts) (b : Buffers) : Type 0 where
+  bytes : AreBytes b
+  heads : HeadsPass b
+  row : stateAt b c ≡ Here f
+  others : (d : ℕ) → Within 64 d → d ≢ c → stateAt b d ≡ Empty
+  free : (i : ℕ) → Within 999 i → kindAt b i ≡ Free
 
--- 4 check-in of entry 7, and then the move in
-checked-in : (b : Buffers) → Lent b → answers (checkIn ∷ moveIn ∷ []) b ≡ 0 ∷ 0 ∷ []
+registered : (c : ℕ) (f : Facts) → Within 64 c → FactsInRange f → Goes (registration c f) (fresh 64 0 0) (Registered c f)
+registered c f is in-range =
+    let b = fresh 64 0 0 in
+    let k = registration c f in
+    let p = fresh-heads 64 0 (omega arith) (omega arith) (omega arith) in
+    let n : Needs k b =
+    record {
+      content = record { from = is .from; to = omega (arith, is .to) };
+      facts = in-range;
+      ledger = p .ledger;
+      empty = fresh-empty 64 0 0 (omega arith) c is;
+    } in
+    let w = work-is-done k b in
+    let l = w .leaves (fresh-bytes 64 0 0) n in
+    record {
+      done = w .done n;
+      after =
+          record {
+            bytes = in-bounds k b .stay-bytes (fresh-bytes 64 0 0);
+            heads = heads-kept k b p;
+            row = l .row .reads;
+            others = λ d there ne.
+                row-else (w .untouched .rows) (ledger-head (b .ledger) (p .ledger)) d (λ e. let same : _≡_ {A = ℕ} c d = cc in ne (sym same))
+                ∙ fresh-empty 64 0 0 (omega arith) d there;
+            free = λ i m. ap₂ (λ (t r : List ℕ). kindOf (titleAt t i) (ruleAt r i)) (l .titles) (l .rules) ∙ fresh-free 64 0 0 i m;
+          };
+    }
+
+-- facts that the two runs register and record
+in-range : (rights : ℕ) → rights ≤ 2 → FactsInRange (record { cci = 2; trigger = 0; rights = rights; permits = 1; «title_key» = 5; «sti_key» = 6 })
+in-range rights few =
+    record {
+      cci = omega arith;
+      not-reserved = λ e. omega arith;
+      trigger = omega arith;
+      rights = omega arith;
+      permits = omega arith;
+      title-key = omega arith;
+      sti-key = omega arith;
+    }
+
+-- 2 record, to entry 7
+recorded : (b : Buffers) → Registered 2 sampleFacts b → Goes recording b AtSeven
+recorded b s =
+    let o : Open b = record { bytes = s .bytes; heads = s .heads; free = λ i l ne. s .free i l } in
+    let n : Needs recording b =
+    record {
+      content = one;
+      entry = seven;
+      facts = in-range 2 (omega arith);
+      heads = s .heads;
+      free = s .free 7 seven;
+      empty = s .others 1 (record { from = omega arith; to = omega arith }) (λ e. omega arith);
+    } in
+    let w = work-is-done recording b in
+    let l = w .leaves (s .bytes) n in
+    record { done = w .done n; after = record { tables = open-after recording b refl o; away = l .row .reads; entry = l .entry } }
+
+-- 5 move out
+moved-out : (b : Buffers) → AtSeven b → Goes moveOut b (λ c. Home c 1)
+unfolding oneLess
+moved-out b s =
+    let e = s .entry in
+    let n : Needs moveOut b =
+    record {
+      entry = seven;
+      heads = s .tables .heads;
+      full = e .full;
+      away = rw (e .id) (s .away);
+      may-move = rw (e .facts) record { not-triggered = λ z. omega arith; right-left = λ z. omega arith };
+      hash = sym (e .hash (omega arith));
+      title-key = λ z. let x : _≡_ {A = ℕ} 9 5 = z ∙ keys-in b 7 .0 ∙ ap (λ (f : Facts). f .«title_key») (e .facts) in omega arith;
+      sti-key = λ z. let x : _≡_ {A = ℕ} 9 6 = z ∙ keys-in b 7 .1 ∙ ap (λ (f : Facts). f .«sti_key») (e .facts) in omega arith;
+    } in
+    let w = work-is-done moveOut b in
+    let l = w .leaves (s .tables .bytes) n in
+    let row : RowIs (perform moveOut b .buffers) 1 (Here (rowFacts (perform moveOut b .buffers) 1)) (hereRow (rowFacts (perform moveOut b .buffers) 1)) = rw (e .id) at (l .row) in
+    let facts : Recounted twoMoves 1 1 (rowFacts (perform moveOut b .buffers) 1) = rw (e .id, e .facts) at (l .facts) in
+    record {
+      done = w .done n;
+      after =
+          record {
+            standing =
+                record {
+                  tables = open-after moveOut b refl (s .tables);
+                  here = row .reads;
+                  facts =
+                      record {
+                        cci = facts .cci;
+                        trigger = facts .trigger;
+                        rights = facts .rights-are;
+                        permits-are = facts .permits-are;
+                        title-key = facts .title-key;
+                        sti-key = facts .sti-key;
+                      };
+                };
+            free-7 = l .free;
+          };
+    }
+
+-- 3 check-out to entry 7
+lent-out : (b : Buffers) → Home b 1 → Goes (checkOut 7) b Lent
+unfolding oneLess
+lent-out b h =
+    let k = checkOut 7 in
+    let s = h .standing in
+    let o = s .tables in
+    let n : Needs k b =
+    record { content = one; entry = seven; heads = o .heads; free = h .free-7; here = s .here; permit-left = λ e. omega (arith, s .facts .permits-are) } in
+    let w = work-is-done k b in
+    let l = w .leaves (o .bytes) n in
+    record {
+      done = w .done n;
+      after =
+          record {
+            standing =
+                record {
+                  tables = open-after k b refl o;
+                  here = l .row .here;
+                  facts = with-permits (s .facts) (l .row .facts) (ap oneLess (s .facts .permits-are));
+                };
+            copy = l .copy;
+            id = l .id;
+            key = l .title-key ∙ s .facts .title-key;
+          };
+    }
+
+-- 4 check-in of entry 7
+checked-in : (b : Buffers) → Lent b → Goes checkIn b (λ c. Home c 1)
 unfolding oneMore
 checked-in b s =
     let i = s .standing in
     let n : Needs checkIn b =
     record {
       entry = seven;
-      heads = i .heads;
+      heads = i .tables .heads;
       copy = s .copy;
       here = rw (s .id) (i .here);
-      not-14 = rw (s .id) (λ e. omega (arith, i .permits-are));
+      not-14 = rw (s .id) (λ e. omega (arith, i .facts .permits-are));
       title-key = λ e. let z : _≡_ {A = ℕ} 9 5 = e ∙ s .key in omega arith;
     } in
     let w = work-is-done checkIn b in
-    let l = w .leaves (i .bytes) n in
+    let l = w .leaves (i .tables .bytes) n in
     let row : PermitsBecome b (perform checkIn b .buffers) 1 (oneMore (rowFacts b 1 .permits)) = rw (s .id) at (l .row) in
-    then checkIn (moveIn ∷ []) b (w .done n)
-    (move-in-done (perform checkIn b .buffers) (standing-after checkIn b refl i row (ap oneMore (i .permits-are))) (l .free))
+    record {
+      done = w .done n;
+      after =
+          record {
+            standing =
+                record {
+                  tables = open-after checkIn b refl (i .tables);
+                  here = row .here;
+                  facts = with-permits (i .facts) (row .facts) (ap oneMore (i .facts .permits-are));
+                };
+            free-7 = l .free;
+          };
+    }
+
+-- 7 delete, of the copy in entry 7
+copy-deleted : (b : Buffers) → Lent b → Goes (deletion 7) b (λ c. Home c 0)
+copy-deleted b s =
+    let k = deletion 7 in
+    let i = s .standing in
+    let n : Needs k b =
+    record { entry = seven; heads = i .tables .heads; deletable = a-copy (s .copy); title-key = λ e. let z : _≡_ {A = ℕ} 9 5 = e ∙ s .key in omega arith } in
+    let w = work-is-done k b in
+    let l = w .leaves (i .tables .bytes) n .of-copy (s .copy) in
+    record {
+      done = w .done n;
+      after =
+          record {
+            standing = record { tables = open-after k b refl (i .tables); here = rw (l .ledger) (i .here); facts = rw (l .ledger) (i .facts) };
+            free-7 = l .free;
+          };
+    }
+
+-- 6 move in to entry 9, with no copy out
+moved-in : (b : Buffers) (permits : ℕ) → Home b permits → Goes moveIn b AtNine
+moved-in b permits h =
+    let s = h .standing in
+    let o = s .tables in
+    let all-free : (i : ℕ) → Within 999 i → kindAt b i ≡ Free = λ i l. elim (ℕ-discrete i 7) [ yes e ↦ rw e (h .free-7) | no ne ↦ o .free i l ne ] in
+    let n : Needs moveIn b =
+    record {
+      content = one;
+      entry = nine;
+      heads = o .heads;
+      free = all-free 9 nine;
+      here = s .here;
+      may-move = may-move-1 (s .facts);
+      no-copy = λ i l copy. let z : _≡_ {A = ℕ} 0 1 = cc (all-free i l) in absurd (omega arith);
+    } in
+    let w = work-is-done moveIn b in
+    let l = w .leaves (o .bytes) n in
+    let after = perform moveIn b .buffers in
+    record {
+      done = w .done n;
+      after =
+          record {
+            heads = heads-kept moveIn b (o .heads);
+            away = l .row .reads;
+            full = l .entry .full;
+            id = l .entry .id;
+            title-key = keys-in after 9 .0 ∙ l .facts .title-key ∙ s .facts .title-key;
+            sti-key = keys-in after 9 .1 ∙ l .facts .sti-key ∙ s .facts .sti-key;
+          };
+    }
+
+-- 7 delete, of the title in entry 9
+holder-deleted : (b : Buffers) → AtNine b → perform (deletion 9) b .answer ≡ 0
+holder-deleted b s =
+    work-is-done (deletion 9) b .done
+    (record {
+      entry = nine;
+      heads = s .heads;
+      deletable = a-holder (s .full) (rw (s .id) (s .away)) (λ e. let z : _≡_ {A = ℕ} 9 6 = e ∙ s .sti-key in omega arith);
+      title-key = λ e. let z : _≡_ {A = ℕ} 9 5 = e ∙ s .title-key in omega arith;
+    })
+
+-- REFUSED
 
 -- 6 move in, while the copy is out
 move-in-refused : (b : Buffers) → Lent b → perform moveIn b .answer ≡ 14
 unfolding conditions
 move-in-refused b s =
     let i = s .standing in
-    let may : MayMove (rowFacts b 1) = record { not-triggered = λ e. omega (arith, i .trigger); right-left = λ e. omega (arith, i .rights) } in
+    let p = i .tables .heads in
     answer-first moveIn b
     ∙ of-first 14 (conditions moveIn b)
     (inr (
@@ -149,17 +389,17 @@ move-in-refused b s =
       inr (
         numbers nine,
         inr (
-          holds-not (i .heads .ledger),
+          holds-not (p .ledger),
           inr (
-            holds-not (i .heads .titles),
+            holds-not (p .titles),
             inr (
-              rules-right b (i .heads),
+              rules-right b p,
               inr (
-                holds-not (ap isFree (i .free 9 nine (λ e. omega arith))),
+                holds-not (ap isFree (i .tables .free 9 nine (λ e. omega arith))),
                 inr (
                   holds-not (ap isHere (i .here)),
                   inr (
-                    moves _ may,
+                    moves _ (may-move-1 (i .facts)),
                     inl (fails-so (ne-eqb _ 0 (copy-counts 1 b 7 seven (s .copy) (s .id))), refl),
                   ),
                 ),
@@ -175,6 +415,7 @@ check-out-refused : (b : Buffers) → Lent b → perform (checkOut 8) b .answer 
 unfolding conditions
 check-out-refused b s =
     let i = s .standing in
+    let p = i .tables .heads in
     answer-first (checkOut 8) b
     ∙ of-first 12 (conditions (checkOut 8) b)
     (inr (
@@ -182,76 +423,52 @@ check-out-refused b s =
       inr (
         numbers eight,
         inr (
-          holds-not (i .heads .ledger),
+          holds-not (p .ledger),
           inr (
-            holds-not (i .heads .titles),
+            holds-not (p .titles),
             inr (
-              rules-right b (i .heads),
-              inr (holds-not (ap isFree (i .free 8 eight (λ e. omega arith))), inr (holds-not (ap isHere (i .here)), inl (eq-eqb _ 0 (i .permits-are), refl))),
+              rules-right b p,
+              inr (holds-not (ap isFree (i .tables .free 8 eight (λ e. omega arith))), inr (holds-not (ap isHere (i .here)), inl (eq-eqb _ 0 (i .facts .permits-are), refl))),
             ),
           ),
         ),
       ),
     ))
 
--- 3 check-out to entry 7, and all after it
-checked-out : (b : Buffers) → Standing b 1 → kindAt b 7 ≡ Free → answers (checkOut 7 ∷ checkOut 8 ∷ moveIn ∷ checkIn ∷ moveIn ∷ []) b ≡ 0 ∷ 12 ∷ 14 ∷ 0 ∷ 0 ∷ []
-unfolding oneLess
-checked-out b i free-7 =
-    let k = checkOut 7 in
-    let n : Needs k b =
-    record { content = one; entry = seven; heads = i .heads; free = free-7; here = i .here; permit-left = λ e. omega (arith, i .permits-are) } in
-    let w = work-is-done k b in
-    let l = w .leaves (i .bytes) n in
-    let after = perform k b .buffers in
-    let s : Lent after =
-    record {
-      standing = standing-after k b refl i (l .row) (ap oneLess (i .permits-are));
-      copy = l .copy;
-      id = l .id;
-      key = l .title-key ∙ i .title-key;
-    } in
-    then k (checkOut 8 ∷ moveIn ∷ checkIn ∷ moveIn ∷ []) b (w .done n)
-    (then-refused (checkOut 8) (moveIn ∷ checkIn ∷ moveIn ∷ []) after (check-out-refused after s) (λ e. omega arith)
-    (then-refused moveIn (checkIn ∷ moveIn ∷ []) after (move-in-refused after s) (λ e. omega arith) (checked-in after s)))
+-- THE RUNS
 
--- 1 register, on a fresh ledger, and all after it
+-- the title that was registered is at home
+at-home : (b : Buffers) → Registered 1 sampleFacts b → Home b 1
+at-home b s =
+    let facts = ap hereFacts (s .row) in
+    record {
+      standing =
+          record {
+            tables = record { bytes = s .bytes; heads = s .heads; free = λ i l ne. s .free i l };
+            here = s .row ∙ ap Here (sym facts);
+            facts = rw facts record { cci = refl; trigger = refl; rights = refl; permits-are = refl; title-key = refl; sti-key = refl };
+          };
+      free-7 = s .free 7 seven;
+    }
+
+in-ledger : (c : ℕ) → 1 ≤ c → c ≤ 64 → Within 64 c
+in-ledger c low high = record { from = low; to = high }
+
 pub sample-run : SampleRun
 sample-run =
-    let b = fresh 64 0 0 in
-    let p = fresh-heads 64 0 (omega arith) (omega arith) (omega arith) in
-    let n : Needs register b =
-    record {
-      content = one;
-      facts =
-          record {
-            cci = omega arith;
-            not-reserved = λ e. omega arith;
-            trigger = omega arith;
-            rights = omega arith;
-            permits = omega arith;
-            title-key = omega arith;
-            sti-key = omega arith;
-          };
-      ledger = p .ledger;
-      empty = fresh-empty 64 0 0 (omega arith) 1 (record { from = omega arith; to = omega arith });
-    } in
-    let w = work-is-done register b in
-    let l = w .leaves (fresh-bytes 64 0 0) n in
-    let after = perform register b .buffers in
-    let facts = ap hereFacts (l .row .reads) in
-    let free : (i : ℕ) → Within 999 i → kindAt after i ≡ Free = λ i m.
-    ap₂ (λ (t r : List ℕ). kindOf (titleAt t i) (ruleAt r i)) (l .titles) (l .rules) ∙ fresh-free 64 0 0 i m in
-    then register (checkOut 7 ∷ checkOut 8 ∷ moveIn ∷ checkIn ∷ moveIn ∷ []) b (w .done n)
-    (checked-out after
-    (record {
-      bytes = in-bounds register b .stay-bytes (fresh-bytes 64 0 0);
-      heads = heads-kept register b p;
-      here = l .row .reads ∙ ap Here (sym facts);
-      trigger = ap (λ (f : Facts). f .trigger) facts;
-      rights = ap (λ (f : Facts). f .rights) facts;
-      permits-are = ap (λ (f : Facts). f .permits) facts;
-      title-key = ap (λ (f : Facts). f .«title_key») facts;
-      free = λ i m ne. free i m;
-    })
-    (free 7 seven))
+    on (registration 1 sampleFacts) _ (fresh 64 0 0) (registered 1 sampleFacts (in-ledger 1 (omega arith) (omega arith)) (in-range 1 (omega arith))) (λ b s.
+    on (checkOut 7) _ b (lent-out b (at-home b s)) (λ c l.
+    on-refused (checkOut 8) _ c (check-out-refused c l) (λ e. omega arith)
+    (on-refused moveIn _ c (move-in-refused c l) (λ e. omega arith)
+    (on checkIn _ c (checked-in c l) (λ d h. last moveIn d (moved-in d 1 h .done))))))
+
+pub every-call-done : EveryCallDone
+every-call-done =
+    on (registration 2 sampleFacts) _ (fresh 64 0 0) (registered 2 sampleFacts (in-ledger 2 (omega arith) (omega arith)) (in-range 1 (omega arith))) (λ b s.
+    on recording _ b (recorded b s) (λ c at.
+    on moveOut _ c (moved-out c at) (λ d h.
+    on (checkOut 7) _ d (lent-out d h) (λ e l.
+    on checkIn _ e (checked-in e l) (λ f i.
+    on (checkOut 7) _ f (lent-out f i) (λ g m.
+    on (deletion 7) _ g (copy-deleted g m) (λ o j.
+    on moveIn _ o (moved-in o 0 j) (λ q x. last (deletion 9) q (holder-deleted q x)))))))))

@@ -19,7 +19,7 @@ use Rattle.calls.proofs.InBounds.{demand-1-calls}
 use Rattle.calls.proofs.Requests.{kind-tested, writing-numbers, writing-refuses, writing-answer, writing-left, demand-1-requests}
 use Rattle.calls.proofs.Done.{work-is-done, register-by-ledger}
 use Rattle.calls.proofs.Examples.{ten-examples}
-use Rattle.calls.proofs.SampleRun.{sample-run}
+use Rattle.calls.proofs.SampleRun.{sample-run, every-call-done}
 use Rattle.calls.proofs.History.Always.{history}
 use Rattle.tables.proofs.Demand1.{demand-1-tables}
 use Rattle.tables.proofs.History.{formatted-history}
@@ -58,6 +58,7 @@ demands =
           record {
             calls = demand-1-calls;
             work = work-is-done;
+            every-call = every-call-done;
             register-by-ledger = register-by-ledger;
             tables = demand-1-tables;
             requests = demand-1-requests;

@@ -12,7 +12,7 @@ use Rattle.calls.specs.Perform.{Demand1Calls}
 use Rattle.calls.specs.Requests.{kindCondition, writingConditions, valuesNumbers, Demand1Requests}
 use Rattle.calls.specs.Work.{WorkIsDone, RegisterByLedger}
 use Rattle.calls.specs.Examples.{TenExamples}
-use Rattle.calls.specs.SampleRun.{SampleRun}
+use Rattle.calls.specs.SampleRun.{SampleRun, EveryCallDone}
 use Rattle.calls.specs.History.{History}
 use Rattle.tables.specs.Demand1.{Demand1Tables}
 use Rattle.tables.specs.History.{FormattedHistory}
@@ -29,9 +29,10 @@ WritesNumbers kind arguments out =
 -- 1: "every call that meets a refusal condition gets that number, the first in the order, and no byte changes; every other call is
 -- carried out and ends in bounds"
 pub record Demand1 : Type 0 where
-  -- the seven calls, and that each is done exactly where the paper says
+  -- the seven calls; that each is done exactly where the paper says, and a run in which each is
   pub calls : Demand1Calls
   pub work : WorkIsDone
+  pub every-call : EveryCallDone
   pub register-by-ledger : RegisterByLedger
   -- formatting and tally
   pub tables : Demand1Tables
