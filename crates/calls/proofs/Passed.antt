@@ -12,7 +12,7 @@ use lib.Dec.{eqb}
 use borrow.Author.Tests.{le-leb, leb-true, lt-ltb, ltb-true, eq-eqb, ne-eqb, eqb-true, eqb-false, not-false}
 use Rattle.formats.specs.Facts.{inRange, keyPasses}
 use Rattle.formats.specs.Half.{keyOf}
-use Rattle.formats.specs.Head.{ledgerPasses, ledgerApplication, titlesPass, rulesPass, rulesApplication}
+use Rattle.formats.specs.Head.{LedgerHead, ledgerPasses, ledgerApplication, titlesPass, rulesPass, rulesApplication}
 use Rattle.formats.specs.declared.facts.Facts.{Facts}
 use Rattle.formats.specs.declared.facts.Fillers.{Fillers}
 use Rattle.requests.specs.declared.request.Request.{Request}
@@ -23,7 +23,7 @@ use Rattle.formats.specs.declared.row.RowState.{RowState}
 use Rattle.formats.specs.declared.row.RowState.the-variants.{Empty, Here, Away, Gone, NoState}
 use Rattle.formats.proofs.Tests.{split, both}
 use Rattle.formats.proofs.facts.Laws.{Ranges, ranges, in-range}
-use Rattle.formats.proofs.head.Laws.{LedgerHead, ledger-head, titles-length, rules-length}
+use Rattle.formats.proofs.head.Laws.{ledger-head, titles-length, rules-length}
 use Rattle.calls.specs.Buffers.{Buffers, titleAt, ruleAt, stateAt, rowFacts, hereFacts, kindAt, contentAt, isFree, isCopy, isFull, isEmpty, isHere, isAway, one, copies, Within}
 use Rattle.calls.specs.Refusal.{NoneHolds}
 use Rattle.calls.specs.Conditions.{numbered, factsPass, mayNotMove, leavesKey, argumentConditions, headConditions, stateConditions, conditions}

@@ -13,7 +13,7 @@ use borrow.Author.Tests.{le-leb, leb-true}
 use Rattle.formats.specs.Part.{part, put}
 use Rattle.formats.specs.Half.{idOf}
 use Rattle.formats.specs.Entry.{kindOf, entryFacts}
-use Rattle.formats.specs.Head.{rowsOf}
+use Rattle.formats.specs.Head.{LedgerHead, rowsOf}
 use Rattle.formats.specs.Row.{stateOf}
 use Rattle.formats.specs.declared.facts.Facts.{Facts}
 use Rattle.formats.specs.declared.entry.EntryKind.{EntryKind}
@@ -21,7 +21,7 @@ use Rattle.formats.specs.declared.entry.EntryKind.the-variants.{Free, Copy, Ful
 use Rattle.formats.specs.declared.row.RowState.the-variants.{NoState}
 use Rattle.formats.proofs.Part.{part-length}
 use Rattle.formats.proofs.Tests.{split, both}
-use Rattle.formats.proofs.head.Laws.{LedgerHead, rows-kept}
+use Rattle.formats.proofs.head.Laws.{rows-kept}
 use Rattle.calls.specs.History.{fullOf}
 use Rattle.calls.specs.Buffers.{kindAt, contentAt, factsAt, isCopy, isFull, one, total, copies, Buffers, rowAt, titleAt, ruleAt, stateIn, stateAt, Within}
 use Rattle.calls.specs.Untouched.{SlotsKept}

@@ -1,5 +1,7 @@
 -- The heads of the ledger and of the two card tables, and the tables as formatting leaves them.
-use Prim.Native.Nat.{ℕ, _+_, _*_}
+use Prim.Native.Nat.{ℕ, _+_, _*_, _≤_}
+use mathlib.Core.Path.{_≡_}
+use mathlib.Core.Logic.{_⊎_}
 use mathlib.Core.List.{List, [], _∷_, _++_}
 use mathlib.Core.Bool.{Bool, _&&_, _||_}
 use lib.ListN.{length, getD, replicate}
@@ -40,6 +42,36 @@ rulesPass r = tablePasses 0x4D31 32000 32 0x02 r && leb 0x11 (getD r 3 0)
 -- "8-9 the application number"
 abbrev pub rulesApplication : List ℕ → ℕ
 rulesApplication r = number (part r 8 2)
+
+-- THE SAME AS FACTS, which the tests are proved to test
+
+-- "24 × (R + 1) bytes, R from 1 to 999"
+pub record LedgerHead (l : List ℕ) : Type 0 where
+  pub low : 1 ≤ rowsOf l
+  pub high : rowsOf l ≤ 999
+  pub size : length l ≡ 24 * (rowsOf l + 1)
+
+-- what both card tables have
+pub record TableHead (identifier size width mark : ℕ) (t : List ℕ) : Type 0 where
+  pub long : length t ≡ size
+  pub names : number (part t 0 2) ≡ identifier
+  pub sized : number (part t 4 4) ≡ size
+  pub count : number (part t 10 2) ≡ 999
+  pub wide : getD t 12 0 ≡ width
+  pub marked : getD t 13 0 ≡ mark
+
+-- "A1" .. "byte 3 version 09h or 10h; 4-7 the size 16,000; 8-9 zero; 10-11 the count 999; 12 is 16; 13 is 01h"
+pub record TitlesHead (t : List ℕ) : Type 0 where
+  pub table : TableHead 0x4131 16000 16 0x01 t
+  pub version : (getD t 3 0 ≡ 0x09) ⊎ (getD t 3 0 ≡ 0x10)
+  pub zero : number (part t 8 2) ≡ 0
+
+-- "M1" .. "byte 3 version 11h or more (later ones are no error); 4-7 the size 32,000; .. 12 is 32; 13 is 02h"
+pub record RulesHead (r : List ℕ) : Type 0 where
+  pub table : TableHead 0x4D31 32000 32 0x02 r
+  pub version : 0x11 ≤ getD r 3 0
+
+-- THE ANSWERS
 
 -- "7 ledger length or head wrong"
 abbrev pub ledgerAnswer : List ℕ → ℕ

@@ -8,6 +8,7 @@ use mathlib.Core.Option.{none, some}
 use mathlib.Core.Bool.{Bool, true, false, cond}
 use native.Mathlib.Omega.{arith}
 use borrow.Author.Tests.{ne-eqb}
+use Rattle.formats.specs.Head.{LedgerHead}
 use Rattle.formats.specs.declared.facts.Facts.{Facts}
 use Rattle.requests.specs.declared.request.Request.{Request}
 use Rattle.requests.specs.declared.request.Request.the-variants.{Register, Record, CheckOut, CheckIn, MoveOut, MoveIn, Delete}
@@ -16,7 +17,7 @@ use Rattle.formats.specs.declared.entry.EntryKind.the-variants.{Copy, Full}
 use Rattle.formats.specs.declared.row.RowState.{RowState}
 use Rattle.formats.specs.declared.row.RowState.the-variants.{Here}
 use Rattle.formats.proofs.facts.Laws.{facts-same, permitting}
-use Rattle.formats.proofs.head.Laws.{LedgerHead, ledger-head}
+use Rattle.formats.proofs.head.Laws.{ledger-head}
 use Rattle.calls.specs.Count.{oneLess}
 use Rattle.calls.specs.Buffers.{Buffers, titleAt, ruleAt, stateAt, kindAt, contentAt, factsAt, isFull, Within}
 use Rattle.calls.specs.Effect.{afterMove}

@@ -4,7 +4,7 @@ use Prim.Native.Nat.{ℕ, _+_, _-_, _*_, _≤_, _<_, _^_}
 use mathlib.Core.Path.{_≡_, refl, sym, ap, _∙_}
 use mathlib.Core.List.{List, _++_, append-assoc}
 use mathlib.Core.Bool.{true}
-use mathlib.Core.Logic.{_⊎_, inr, ⊎-map}
+use mathlib.Core.Logic.{inr, ⊎-map}
 use native.Mathlib.Omega.{arith}
 use lib.ListN.{length, getD, replicate, length-append, length-replicate, getD-replicate}
 use lib.Seq.{ext-getD, getD-take, getD-append-add}
@@ -12,18 +12,12 @@ use lib.Dec.{lit<}
 use borrow.Author.Tests.{le-leb, leb-true, eq-eqb, eqb-true}
 use Rattle.formats.specs.Part.{part}
 use Rattle.formats.specs.Field.{number, bytesOf}
-use Rattle.formats.specs.Head.{ledgerApplication, rowsOf, ledgerPasses, tablePasses, titlesPass, rulesPass, rulesApplication, ledgerAnswer, titlesAnswer, rulesAnswer, rulesAnswerFor, freshLedger, tableHead, freshTitles, freshRules}
+use Rattle.formats.specs.Head.{LedgerHead, TableHead, TitlesHead, RulesHead, ledgerApplication, rowsOf, ledgerPasses, tablePasses, titlesPass, rulesPass, rulesApplication, ledgerAnswer, titlesAnswer, rulesAnswer, rulesAnswerFor, freshLedger, tableHead, freshTitles, freshRules}
 use Rattle.formats.proofs.Part.{part-length, getD-part, part-inside}
 use Rattle.formats.specs.Bytes.{Bytes}
 use Rattle.formats.proofs.Bytes.{Listed, none, more, bytes, then, zeros, field}
 use Rattle.formats.proofs.field.Laws.{length-bytesOf, number-whole}
 use Rattle.formats.proofs.Tests.{split, both, either, one-holds, refuses}
-
--- a ledger whose length and head are right
-pub record LedgerHead (l : List ℕ) : Type 0 where
-  pub low : 1 ≤ rowsOf l
-  pub high : rowsOf l ≤ 999
-  pub size : length l ≡ 24 * (rowsOf l + 1)
 
 -- a ledger that passes has a right head
 pub ledger-head : (l : List ℕ) → ledgerPasses l ≡ true → LedgerHead l
@@ -37,15 +31,6 @@ ledger-head l e =
 pub ledger-passes : {l : List ℕ} → LedgerHead l → ledgerPasses l ≡ true
 unfolding ledgerPasses
 ledger-passes h = both (le-leb _ _ (h .low)) (both (le-leb _ _ (h .high)) (eq-eqb _ _ (h .size)))
-
--- what the heads of both card tables have
-pub record TableHead (identifier size width mark : ℕ) (t : List ℕ) : Type 0 where
-  pub long : length t ≡ size
-  pub names : number (part t 0 2) ≡ identifier
-  pub sized : number (part t 4 4) ≡ size
-  pub count : number (part t 10 2) ≡ 999
-  pub wide : getD t 12 0 ≡ width
-  pub marked : getD t 13 0 ≡ mark
 
 -- a table that passes has them
 pub table-head : {identifier size width mark : ℕ} {t : List ℕ} → tablePasses identifier size width mark t ≡ true → TableHead identifier size width mark t
@@ -65,12 +50,6 @@ table-passes h =
     both (eq-eqb _ _ (h .long))
     (both (eq-eqb _ _ (h .names)) (both (eq-eqb _ _ (h .sized)) (both (eq-eqb _ _ (h .count)) (both (eq-eqb _ _ (h .wide)) (eq-eqb _ _ (h .marked))))))
 
--- a title table whose length and head are right
-pub record TitlesHead (t : List ℕ) : Type 0 where
-  pub table : TableHead 0x4131 16000 16 0x01 t
-  pub version : (getD t 3 0 ≡ 0x09) ⊎ (getD t 3 0 ≡ 0x10)
-  pub zero : number (part t 8 2) ≡ 0
-
 -- a title table that passes has a right head
 pub titles-head : {t : List ℕ} → titlesPass t ≡ true → TitlesHead t
 unfolding titlesPass
@@ -83,11 +62,6 @@ titles-head e =
 pub titles-pass : {t : List ℕ} → TitlesHead t → titlesPass t ≡ true
 unfolding titlesPass
 titles-pass h = both (table-passes (h .table)) (both (one-holds (⊎-map (eq-eqb _ _) (eq-eqb _ _) (h .version))) (eq-eqb _ _ (h .zero)))
-
--- a rule table whose length and head are right
-pub record RulesHead (r : List ℕ) : Type 0 where
-  pub table : TableHead 0x4D31 32000 32 0x02 r
-  pub version : 0x11 ≤ getD r 3 0
 
 -- a rule table that passes has a right head
 pub rules-head : {r : List ℕ} → rulesPass r ≡ true → RulesHead r

@@ -7,12 +7,12 @@ use mathlib.Core.Logic.{_⊎_, inl, inr, ⊎-elim}
 use native.Mathlib.Omega.{arith}
 use lib.Bits.{bitAnd, and-block, and-mask}
 use lib.ListN.{length, getD}
+use Rattle.formats.specs.Head.{TitlesHead, RulesHead}
 use Rattle.formats.specs.Part.{part}
 use Rattle.formats.specs.Field.{number}
 use Rattle.formats.specs.Bytes.{Bytes}
 use Rattle.formats.proofs.Cells.{part-cells}
 use Rattle.formats.proofs.field.Laws.{number-first, number-below}
-use Rattle.formats.proofs.head.Laws.{TitlesHead, RulesHead}
 
 -- bytes 0 and 1, and the low bits from the k-th down: what a mask leaves of the first eight bytes
 without-2 : (w : ℕ) → w < 2 ^ 64 → bitAnd w 0xffff00ffffffffff ≡ w / 2 ^ 48 * 2 ^ 48 + w % 2 ^ 40
