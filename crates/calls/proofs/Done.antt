@@ -36,11 +36,12 @@ use Rattle.calls.specs.Buffers.{Buffers, lent, rowAt, titleAt, ruleAt, s
 use Rattle.calls.specs.Effect.{afterMove, effect}
 use Rattle.calls.specs.Conditions.{conditions}
 use Rattle.calls.specs.Perform.{refusal, perform, AreBytes}
-use Rattle.calls.specs.Needs.{a-copy, a-holder, WipesTitleKey, WipesStiKey, Needs}
+use Rattle.calls.specs.Needs.{WipesTitleKey, WipesStiKey}
 use Rattle.calls.specs.Work.{RowIs, Recounted, PermitsBecome, FullEntry, TitleWiped, RuleWiped, Left, WorkIsDone, RegisterByLedger}
 use Rattle.calls.proofs.Counts.{less-most, more-most}
 use Rattle.calls.proofs.Refusals.{carried-out}
-use Rattle.calls.proofs.Passed.{to-ranges, needs-met, done-where, OnCard, on-card, its-row, row-in}
+use Rattle.calls.proofs.Named.{a-copy, a-holder, Named, named}
+use Rattle.calls.proofs.Passed.{to-ranges, all-needs-met, done-where, refused-where, unmet-where, OnCard, on-card, its-row, row-in}
 use Rattle.calls.proofs.Slots.{slot-same, slots-kept}
 use Rattle.calls.proofs.Views.{IsRow, state-of-row, row-inside, row-length, row-reads, entry-length, entry-same}
 use Rattle.calls.proofs.Untouched.{permits-long, rule-long, wiped-title-long, wiped-rule-long, untouched}
@@ -182,7 +183,7 @@ module _ (b : Buffers) (j : ℕ) (o : OnCard b j) where
 -- THE SEVEN CALLS
 
 module _ (b : Buffers) (are-bytes : AreBytes b) where
-  leaves : (k : Request) → Needs k b → Left k b (effect k b)
+  leaves : (k : Request) → Named k b → Left k b (effect k b)
   unfolding effect
   leaves (Register c f) n =
       let is = its-row (Register c f) b n in
@@ -280,8 +281,10 @@ pub work-is-done : WorkIsDone
 work-is-done k b =
     record {
       done = done-where k b;
-      only-done = needs-met k b;
-      leaves = λ are-bytes n. subst (Left k b) (sym (carried-out k b (done-where k b n))) (leaves b are-bytes k n);
+      only-done = all-needs-met k b;
+      refused = refused-where k b;
+      only-refused = unmet-where k b;
+      leaves = λ are-bytes n. subst (Left k b) (sym (carried-out k b (done-where k b n))) (leaves b are-bytes k (named k b n));
       untouched = untouched k b;
     }
 

@@ -25,14 +25,14 @@ use Rattle.formats.proofs.Tests.{both, and-false, refuted}
 use Rattle.formats.proofs.entry.Laws.{kind-copy, torn-cci, torn-ids}
 use Rattle.formats.proofs.head.Laws.{table-head, rules-head, rules-pass}
 use Rattle.calls.specs.Count.{oneLess, oneMore}
-use Rattle.calls.specs.Buffers.{Buffers, rowFacts, contentAt, isCopy, isHere}
+use Rattle.calls.specs.Buffers.{Buffers, rowFacts, contentAt}
 use Rattle.calls.specs.Refusal.{first}
 use Rattle.calls.specs.Conditions.{argumentConditions, allHeadConditions, stateConditions, conditions}
 use Rattle.calls.specs.Perform.{perform}
-use Rattle.calls.specs.Examples.{E1, E2, E3, E4, E5, Moves, E6, E7, E8, ChecksIn, NeedsUntil15, E9, E10, TenExamples}
+use Rattle.calls.specs.Needs.{MetBelow, needsOf}
+use Rattle.calls.specs.Examples.{E1, E2, E3, E4, E5, Moves, E6, E7, E8, ChecksIn, E9, E10, TenExamples}
 use Rattle.calls.proofs.Refusals.{past, of-first, to-none, meets, answer-first, refused-by, holds-not, fails-so}
 use Rattle.calls.proofs.Limits.{limits-agree, argument-numbers}
-use Rattle.calls.proofs.Passed.{numbers, rules-right}
 use Rattle.calls.proofs.Done.{work-is-done}
 
 example-1 : E1
@@ -154,24 +154,10 @@ checks-in before after e b j f1 are-bytes n are =
     (w .done n, record { here = l .row .here; are = l .row .facts .permits-are ∙ ap oneMore are ∙ e })
 
 -- at permits 14 it is refused
-at-14 : (b : Buffers) (j : EntryNumber) (f1 : ℕ) → NeedsUntil15 b (j .0) → rowFacts b (contentAt b (j .0)) .permits ≡ 14 → perform (CheckIn j f1) b .answer ≡ 15
-unfolding conditions
-at-14 b j f1 n e =
-    answer-first (CheckIn j f1) b
-    ∙ of-first 15 (conditions (CheckIn j f1) b)
-    (inr (
-      numbers (n .entry),
-      inr (
-        holds-not (n .heads .ledger),
-        inr (
-          holds-not (n .heads .titles),
-          inr (
-            rules-right b (n .heads),
-            inr (holds-not (ap isCopy (n .copy)), inr (holds-not (ap isHere (n .here)), inl (eq-eqb (rowFacts b (contentAt b (j .0)) .permits) 14 e, refl))),
-          ),
-        ),
-      ),
-    ))
+at-14 : (b : Buffers) (j : EntryNumber) (f1 : ℕ) → MetBelow 15 (needsOf (CheckIn j f1) b) → rowFacts b (contentAt b (j .0)) .permits ≡ 14
+    → perform (CheckIn j f1) b .answer ≡ 15
+at-14 b j f1 (entry, (ledger, (titles, (rules, (copy, (here, rest)))))) e =
+    work-is-done (CheckIn j f1) b .refused 15 (inr (entry, inr (ledger, inr (titles, inr (rules, inr (copy, inr (here, inl (λ other. other e, refl))))))))
 
 example-9 : E9
 unfolding oneMore

@@ -3,16 +3,17 @@
 use Prim.Native.Nat.{ℕ, _≤_, _<_, _^_}
 use mathlib.Core.Path.{_≡_, sym, ap, ap₂, _∙_}
 use native.Mathlib.Omega.{arith}
+use Rattle.formats.specs.Head.{freshLedger}
 use Rattle.formats.specs.Entry.{kindOf}
 use Rattle.formats.specs.Row.{stateOf}
 use Rattle.formats.specs.declared.entry.EntryKind.the-variants.{Free}
 use Rattle.formats.specs.declared.row.RowState.the-variants.{Empty}
 use Rattle.formats.proofs.entry.Laws.{kind-zeros}
 use Rattle.formats.proofs.row.Laws.{state-zeros}
-use Rattle.formats.proofs.head.Laws.{fresh-ledger-application, fresh-rows, fresh-ledger-passes, fresh-row, fresh-titles-pass, fresh-title, fresh-rules-application, fresh-rules-pass, fresh-rule, fresh-ledger-bytes, fresh-titles-bytes, fresh-rules-bytes}
+use Rattle.formats.proofs.head.Laws.{ledger-head, titles-head, rules-head, fresh-ledger-application, fresh-rows, fresh-ledger-passes, fresh-row, fresh-titles-pass, fresh-title, fresh-rules-application, fresh-rules-pass, fresh-rule, fresh-ledger-bytes, fresh-titles-bytes, fresh-rules-bytes}
 use Rattle.calls.specs.Buffers.{stateAt, kindAt, fresh, Within}
 use Rattle.calls.specs.Perform.{AreBytes}
-use Rattle.calls.specs.Needs.{HeadsPass}
+use Rattle.calls.proofs.Named.{HeadsPass}
 use Rattle.calls.proofs.Views.{state-of-row}
 
 module _ (rows application cardApplication : ℕ) where
@@ -31,8 +32,11 @@ module _ (rows application cardApplication : ℕ) where
 pub fresh-heads : (rows application : ℕ) → 1 ≤ rows → rows ≤ 999 → application < 2 ^ 16 → HeadsPass (fresh rows application application)
 fresh-heads rows application low high small =
     record {
-      ledger = fresh-ledger-passes rows application low high;
-      titles = fresh-titles-pass;
-      rules = fresh-rules-pass application;
-      application = fresh-rules-application application small ∙ sym (fresh-ledger-application rows application small);
+      ledger = ledger-head (freshLedger rows application) (fresh-ledger-passes rows application low high);
+      titles = titles-head fresh-titles-pass;
+      rules =
+          record {
+            head = rules-head (fresh-rules-pass application);
+            application = fresh-rules-application application small ∙ sym (fresh-ledger-application rows application small);
+          };
     }

@@ -1,20 +1,17 @@
 -- A call passes its conditions exactly where its needs are met.
 -- Assumes nothing.
-use Prim.Native.Nat.{ℕ, _%_, _^_, _≤_}
+use Prim.Native.Nat.{ℕ, _≤_}
 use mathlib.Core.Path.{_≡_, refl, sym, ap, _∙_}
-use mathlib.Core.Logic.{_≢_}
-use mathlib.Core.List.{List, _++_}
+use mathlib.Core.Logic.{_≢_, _⊎_, inl, inr, ⊎-elim}
+use mathlib.Core.List.{List, [], _∷_}
 use mathlib.Core.Bool.{Bool, true, false, not, _&&_, _||_, true≢false}
 use native.Mathlib.Omega.{arith}
-use native.Mathlib.Decide.{ℕ-discrete}
 use lib.ListN.{length}
 use lib.Dec.{eqb}
 use borrow.Author.Tests.{le-leb, leb-true, lt-ltb, ltb-true, eq-eqb, ne-eqb, eqb-true, eqb-false, not-false}
 use Rattle.formats.specs.Facts.{inRange, keyPasses}
-use Rattle.formats.specs.Half.{keyOf}
-use Rattle.formats.specs.Head.{LedgerHead, ledgerPasses, ledgerApplication, titlesPass, rulesPass, rulesApplication}
+use Rattle.formats.specs.Head.{LedgerHead, TitlesHead, ledgerPasses, ledgerApplication, titlesPass, rulesPass, rulesApplication}
 use Rattle.formats.specs.declared.facts.Facts.{Facts}
-use Rattle.formats.specs.declared.facts.Fillers.{Fillers}
 use Rattle.requests.specs.declared.request.Request.{Request}
 use Rattle.requests.specs.declared.request.Request.the-variants.{Register, Record, CheckOut, CheckIn, MoveOut, MoveIn, Delete}
 use Rattle.formats.specs.declared.entry.EntryKind.{EntryKind}
@@ -23,17 +20,21 @@ use Rattle.formats.specs.declared.row.RowState.{RowState}
 use Rattle.formats.specs.declared.row.RowState.the-variants.{Empty, Here, Away, Gone, NoState}
 use Rattle.formats.proofs.Tests.{split, both}
 use Rattle.formats.proofs.facts.Laws.{Ranges, ranges, in-range}
-use Rattle.formats.proofs.head.Laws.{ledger-head, titles-length, rules-length}
-use Rattle.calls.specs.Buffers.{Buffers, titleAt, ruleAt, stateAt, rowFacts, hereFacts, kindAt, contentAt, isFree, isCopy, isFull, isEmpty, isHere, isAway, one, copies, Within}
-use Rattle.calls.specs.Refusal.{NoneHolds}
-use Rattle.calls.specs.Conditions.{numbered, factsPass, mayNotMove, leavesKey, argumentConditions, headConditions, stateConditions, conditions}
+use Rattle.formats.proofs.head.Laws.{ledger-head, ledger-passes, titles-head, titles-pass, rules-head, rules-pass}
+use Rattle.calls.specs.Buffers.{Buffers, titleAt, ruleAt, stateAt, rowFacts, hereFacts, kindAt, contentAt, factsAt, isFree, isCopy, isFull, isEmpty, isHere, isAway, one, copies, Within}
+use Rattle.calls.specs.Refusal.{Condition, _when_, FirstToHold, NoneHolds}
+use Rattle.calls.specs.Conditions.{numbered, factsPass, mayNotMove, conditions}
 use Rattle.calls.specs.Perform.{perform}
-use Rattle.calls.specs.Needs.{FactsInRange, HeadsPass, MayMove, Deletable, a-copy, a-holder, Needs}
-use Rattle.calls.proofs.Refusals.{answer-first, of-none, none-holds, Unmet, unmet, holds-not}
+use Rattle.calls.specs.Needs.{Need, _needs_, AllMet, FirstUnmet, FactsInRange, RulesOfLedger, MayMove, NoCopy, needsOf, Needs}
+use Rattle.calls.proofs.Refusals.{answer-first, of-first, to-first, of-none, none-holds, holds-not}
+use Rattle.calls.proofs.Named.{HeadsPass, Named, named}
 use Rattle.calls.proofs.Views.{IsRow, in-a-state}
 use Rattle.calls.proofs.History.Totals.{total-at, total-none}
 
--- EACH TEST, and the fact that it tests
+-- EACH TEST of a condition, and the need that it tests: it does not hold exactly where the need does
+pub record Tests (x : Bool) (P : Type 0) : Type 0 where
+  pub met : x ≡ false → P
+  pub unmet : P → x ≡ false
 
 -- 4 and 5: the number is 1 to 999
 pub numbered-within : (v : ℕ) → numbered v ≡ true → Within 999 v
@@ -49,6 +50,9 @@ is-numbered v e = numbered-within v (not-false _ e)
 
 pub numbers : {v : ℕ} → Within 999 v → not (numbered v) ≡ false
 numbers {v} w = holds-not (within-numbered v (w .from) (w .to))
+
+tests-number : (v : ℕ) → Tests (not (numbered v)) (Within 999 v)
+tests-number v = record { met = is-numbered v; unmet = numbers }
 
 -- 6: the facts are in their ranges
 pub to-ranges : {f : Facts} → FactsInRange f → Ranges f
@@ -69,21 +73,25 @@ are-facts f e =
       sti-key = ltb-true _ _ s;
     }
 
-facts-pass : (f : Facts) → FactsInRange f → not (factsPass f) ≡ false
-facts-pass f r = holds-not (both (in-range (to-ranges r)) (both (lt-ltb _ _ (r .title-key)) (lt-ltb _ _ (r .sti-key))))
+tests-facts : (f : Facts) → Tests (not (factsPass f)) (FactsInRange f)
+tests-facts f =
+    record { met = are-facts f; unmet = λ r. holds-not (both (in-range (to-ranges r)) (both (lt-ltb _ _ (r .title-key)) (lt-ltb _ _ (r .sti-key)))) }
 
 -- 7, 8 and 9: the heads are right
-module _ (b : Buffers) where
-  abbrev same-application : Bool
-  same-application = eqb (rulesApplication (b .rules)) (ledgerApplication (b .ledger))
+tests-ledger : (l : List ℕ) → Tests (not (ledgerPasses l)) (LedgerHead l)
+tests-ledger l = record { met = λ e. ledger-head l (not-false _ e); unmet = λ h. holds-not (ledger-passes h) }
 
-  heads-right : not (ledgerPasses (b .ledger)) ≡ false → not (titlesPass (b .titles)) ≡ false → not (rulesPass (b .rules) && same-application) ≡ false → HeadsPass b
-  heads-right l t r =
-      let (rules, application) = split (rulesPass (b .rules)) same-application (not-false _ r) in
-      record { ledger = not-false _ l; titles = not-false _ t; rules = rules; application = eqb-true _ _ application }
+tests-titles : (t : List ℕ) → Tests (not (titlesPass t)) (TitlesHead t)
+tests-titles t = record { met = λ e. titles-head (not-false _ e); unmet = λ h. holds-not (titles-pass h) }
 
-  pub rules-right : HeadsPass b → not (rulesPass (b .rules) && same-application) ≡ false
-  rules-right p = holds-not (both (p .rules) (eq-eqb _ _ (p .application)))
+tests-rules : (b : Buffers) → Tests (not (rulesPass (b .rules) && eqb (rulesApplication (b .rules)) (ledgerApplication (b .ledger)))) (RulesOfLedger b)
+tests-rules b =
+    record {
+      met = λ e.
+          let (rules, application) = split (rulesPass (b .rules)) _ (not-false _ e) in
+          record { head = rules-head rules; application = eqb-true _ _ application };
+      unmet = λ r. holds-not (both (rules-pass (r .head)) (eq-eqb _ _ (r .application)));
+    }
 
 -- 10: the entry is of the kind needed
 is-free : (k : EntryKind) → not (isFree k) ≡ false → k ≡ Free
@@ -126,22 +134,69 @@ is-away Away e = refl
 is-away Gone e = absurd (true≢false e)
 is-away NoState e = absurd (true≢false e)
 
--- two tests of which neither holds
-neither : (a b : Bool) → (a || b) ≡ false → (a ≡ false) × (b ≡ false)
-neither true b e = absurd (true≢false e)
-neither false b e = (refl, e)
+module _ (k : EntryKind) where
+  tests-free : Tests (not (isFree k)) (k ≡ Free)
+  tests-free = record { met = is-free k; unmet = λ e. holds-not (ap isFree e) }
 
-nor : {a b : Bool} → a ≡ false → b ≡ false → (a || b) ≡ false
-nor {a} {b} p q = ap (λ (x : Bool). x || b) p ∙ q
+  tests-copy : Tests (not (isCopy k)) (k ≡ Copy)
+  tests-copy = record { met = is-copy k; unmet = λ e. holds-not (ap isCopy e) }
+
+  tests-full : Tests (not (isFull k)) (k ≡ Full)
+  tests-full = record { met = is-full k; unmet = λ e. holds-not (ap isFull e) }
+
+module _ (s : RowState) where
+  tests-empty : Tests (not (isEmpty s)) (s ≡ Empty)
+  tests-empty = record { met = is-empty s; unmet = λ e. holds-not (ap isEmpty e) }
+
+  tests-here : Tests (not (isHere s)) (s ≡ Here (hereFacts s))
+  tests-here = record { met = is-here s; unmet = λ e. holds-not (ap isHere e) }
+
+  tests-away : Tests (not (isAway s)) (s ≡ Away)
+  tests-away = record { met = is-away s; unmet = λ e. holds-not (ap isAway e) }
+
+-- a number that is to be another, and one that is to be the same
+tests-other : (a n : ℕ) → Tests (eqb a n) (a ≢ n)
+tests-other a n = record { met = eqb-false a n; unmet = ne-eqb a n }
+
+tests-same : (a n : ℕ) → Tests (not (eqb a n)) (a ≡ n)
+tests-same a n = record { met = λ e. eqb-true a n (not-false _ e); unmet = λ e. holds-not (eq-eqb a n e) }
+
+-- two tests of which neither is to hold
+tests-both : {a b : Bool} {P Q : Type 0} → Tests a P → Tests b Q → Tests (a || b) (P × Q)
+tests-both {a} {b} p q =
+    record {
+      met = λ e. let (x, y) = neither a b e in (p .met x, q .met y);
+      unmet = λ both. ap (λ (x : Bool). x || b) (p .unmet (both .0)) ∙ q .unmet (both .1);
+    }
+  where
+    neither : (a b : Bool) → (a || b) ≡ false → (a ≡ false) × (b ≡ false)
+    neither true b e = absurd (true≢false e)
+    neither false b e = (refl, e)
+
+-- a test that is made of a full entry only
+module _ (k : EntryKind) {y : Bool} {Q : Type 0} (q : Tests y Q) where
+  if-full : (x : Bool) → (x ≡ true → k ≡ Full) → (k ≡ Full → x ≡ true) → Tests (x && y) (k ≡ Full → Q)
+  if-full true to from = record { met = λ e full. q .met e; unmet = λ f. q .unmet (f (to refl)) }
+  if-full false to from = record { met = λ e full. absurd (true≢false (sym (from full))); unmet = λ f. refl }
+
+  tests-if-full : Tests (isFull k && y) (k ≡ Full → Q)
+  tests-if-full = if-full (isFull k) (λ e. is-full k (holds-not e)) (λ e. ap isFull e)
+
+-- a copy or a full entry
+tests-either : (k : EntryKind) → Tests (not (isCopy k || isFull k)) ((k ≡ Copy) ⊎ (k ≡ Full))
+tests-either k = record { met = met k; unmet = ⊎-elim (λ e. holds-not (ap (λ x. isCopy x || isFull x) e)) (λ e. holds-not (ap (λ x. isCopy x || isFull x) e)) }
+  where
+    met : (k : EntryKind) → not (isCopy k || isFull k) ≡ false → (k ≡ Copy) ⊎ (k ≡ Full)
+    met Free e = absurd (true≢false e)
+    met Copy e = inl refl
+    met Full e = inr refl
+    met Torn e = absurd (true≢false e)
 
 -- 12: neither trigger nor rights forbid a move
-may-move : (f : Facts) → mayNotMove f ≡ false → MayMove f
-may-move f e =
-    let (t, r) = neither (eqb (f .trigger) 1) (eqb (f .rights) 0) e in
-    record { not-triggered = eqb-false _ _ t; right-left = eqb-false _ _ r }
-
-pub moves : (f : Facts) → MayMove f → mayNotMove f ≡ false
-moves f m = nor (ne-eqb _ 1 (m .not-triggered)) (ne-eqb _ 0 (m .right-left))
+tests-move : (f : Facts) → Tests (mayNotMove f) (MayMove f)
+tests-move f =
+    let t = tests-both (tests-other (f .trigger) 1) (tests-other (f .rights) 0) in
+    record { met = λ e. let (x, y) = t .met e in record { not-triggered = x; right-left = y }; unmet = λ m. t .unmet (m .not-triggered, m .right-left) }
 
 -- 14: no entry is a copy of c
 module _ (c : ℕ) (b : Buffers) where
@@ -155,186 +210,86 @@ module _ (c : ℕ) (b : Buffers) where
   not-one Torn id other = refl
 
   -- a copy counts
-  pub copy-counts : (i : ℕ) → Within 999 i → kindAt b i ≡ Copy → contentAt b i ≡ c → copies c (b .titles) (b .rules) ≢ 0
+  copy-counts : (i : ℕ) → Within 999 i → kindAt b i ≡ Copy → contentAt b i ≡ c → copies c (b .titles) (b .rules) ≢ 0
   unfolding copies
   copy-counts i in-table kind is none =
       omega (arith, total-at 999 (λ j. one (isCopy (kindAt b j) && eqb (contentAt b j) c)) i in-table, one-copy (kindAt b i) (contentAt b i) kind is, none)
 
-  no-copy : not (eqb (copies c (b .titles) (b .rules)) 0) ≡ false → (i : ℕ) → Within 999 i → kindAt b i ≡ Copy → contentAt b i ≢ c
-  no-copy e i in-table kind is = copy-counts i in-table kind is (eqb-true _ 0 (not-false _ e))
-
   -- where none is a copy, none counts
-  pub none-counts : ((i : ℕ) → Within 999 i → kindAt b i ≡ Copy → contentAt b i ≢ c) → copies c (b .titles) (b .rules) ≡ 0
+  pub none-counts : NoCopy b c → copies c (b .titles) (b .rules) ≡ 0
   unfolding copies
   none-counts none = total-none 999 _ (λ j l. not-one (kindAt b j) (contentAt b j) (none j l))
 
--- THE NEEDS
+  tests-copies : Tests (not (eqb (copies c (b .titles) (b .rules)) 0)) (NoCopy b c)
+  tests-copies =
+      let t = tests-same (copies c (b .titles) (b .rules)) 0 in
+      record { met = λ e i l kind is. copy-counts i l kind is (t .met e); unmet = λ none. t .unmet (none-counts none) }
 
--- none of a call's conditions holds: the condition n is named by its number
-abbrev Passed : Request → Buffers → Type 0
-Passed k b = (n : ℕ) → Unmet n (argumentConditions k ++ (headConditions k b ++ stateConditions k b))
+-- CONDITIONS AND NEEDS IN STEP
 
--- what a delete has found
-deletes : (b : Buffers) (j : ℕ) (f : Fillers) → not (isCopy (kindAt b j) || isFull (kindAt b j)) ≡ false
-    → (isFull (kindAt b j) && not (isAway (stateAt b (contentAt b j)))) ≡ false → (isFull (kindAt b j) && leavesKey (f .f2) (ruleAt (b .rules) j)) ≡ false
-    → Deletable j f b
-deletes b j f kinds away key = by (kindAt b j) refl
-  where
-    by : (k : EntryKind) → kindAt b j ≡ k → Deletable j f b
-    by Free k = absurd (true≢false (rw k at kinds))
-    by Copy k = a-copy k
-    by Full k = a-holder k (is-away _ (rw k at away)) (eqb-false _ _ (rw k at key))
-    by Torn k = absurd (true≢false (rw k at kinds))
+abbrev InStep : List Condition → List Need → Type 0
+InStep [] [] = Unit
+InStep [] ((n needs P) ∷ ns) = ⊥
+InStep ((m when x) ∷ cs) [] = ⊥
+InStep ((m when x) ∷ cs) ((n needs P) ∷ ns) = (m ≡ n) × (Tests x P × InStep cs ns)
 
-met : (k : Request) (b : Buffers) → Passed k b → Needs k b
-met (Register c f) b t =
-    record { content = is-numbered (c .0) (t 4 .0); facts = are-facts f (t 6 .0); ledger = not-false _ (t 7 .0); empty = is-empty (stateAt b (c .0)) (t 11 .0) }
-met (Record c j f h) b t =
-    record {
-      content = is-numbered (c .0) (t 4 .0);
-      entry = is-numbered (j .0) (t 5 .0);
-      facts = are-facts f (t 6 .0);
-      heads = heads-right b (t 7 .0) (t 8 .0) (t 9 .0);
-      free = is-free (kindAt b (j .0)) (t 10 .0);
-      empty = is-empty (stateAt b (c .0)) (t 11 .0);
-    }
-met (CheckOut c j) b t =
-    record {
-      content = is-numbered (c .0) (t 4 .0);
-      entry = is-numbered (j .0) (t 5 .0);
-      heads = heads-right b (t 7 .0) (t 8 .0) (t 9 .0);
-      free = is-free (kindAt b (j .0)) (t 10 .0);
-      here = is-here (stateAt b (c .0)) (t 11 .0);
-      permit-left = eqb-false _ 0 (t 12 .0);
-    }
-met (CheckIn j f1) b t =
-    record {
-      entry = is-numbered (j .0) (t 5 .0);
-      heads = heads-right b (t 7 .0) (t 8 .0) (t 9 .0);
-      copy = is-copy (kindAt b (j .0)) (t 10 .0);
-      here = is-here (stateAt b (contentAt b (j .0))) (t 11 .0);
-      not-14 = eqb-false _ 14 (t 15 .0);
-      title-key = eqb-false _ _ (t 16 .0);
-    }
-met (MoveOut j h f) b t =
-    let (first-key, second-key) = neither (leavesKey (f .f1) (titleAt (b .titles) (j .0))) _ (t 16 .0) in
-    record {
-      entry = is-numbered (j .0) (t 5 .0);
-      heads = heads-right b (t 7 .0) (t 8 .0) (t 9 .0);
-      full = is-full (kindAt b (j .0)) (t 10 .0);
-      away = is-away (stateAt b (contentAt b (j .0))) (t 11 .0);
-      may-move = may-move _ (t 12 .0);
-      hash = eqb-true _ _ (not-false _ (t 13 .0));
-      title-key = eqb-false _ _ first-key;
-      sti-key = eqb-false _ _ second-key;
-    }
-met (MoveIn c j h) b t =
-    record {
-      content = is-numbered (c .0) (t 4 .0);
-      entry = is-numbered (j .0) (t 5 .0);
-      heads = heads-right b (t 7 .0) (t 8 .0) (t 9 .0);
-      free = is-free (kindAt b (j .0)) (t 10 .0);
-      here = is-here (stateAt b (c .0)) (t 11 .0);
-      may-move = may-move _ (t 12 .0);
-      no-copy = no-copy (c .0) b (t 14 .0);
-    }
-met (Delete j f) b t =
-    let (first-key, second-key) = neither (leavesKey (f .f1) (titleAt (b .titles) (j .0))) _ (t 16 .0) in
-    record {
-      entry = is-numbered (j .0) (t 5 .0);
-      heads = heads-right b (t 7 .0) (t 8 .0) (t 9 .0);
-      deletable = deletes b (j .0) f (t 10 .0) (t 11 .0) second-key;
-      title-key = eqb-false _ _ first-key;
-    }
+-- where no condition holds, all needs are met, and the other way round
+all-met : (cs : List Condition) (ns : List Need) → InStep cs ns → NoneHolds cs → AllMet ns
+all-met [] [] s h = tt
+all-met [] ((n needs P) ∷ ns) s h = absurd s
+all-met ((m when x) ∷ cs) ((n needs P) ∷ ns) s h = (s .1 .0 .met (h .0), all-met cs ns (s .1 .1) (h .1))
 
--- where none holds, the needs are met
-pub needs-where : (k : Request) (b : Buffers) → NoneHolds (conditions k b) → Needs k b
+none-hold : (cs : List Condition) (ns : List Need) → InStep cs ns → AllMet ns → NoneHolds cs
+none-hold [] [] s h = tt
+none-hold [] ((n needs P) ∷ ns) s h = tt
+none-hold ((m when x) ∷ cs) [] s h = absurd s
+none-hold ((m when x) ∷ cs) ((n needs P) ∷ ns) s h = (s .1 .0 .unmet (h .0), none-hold cs ns (s .1 .1) (h .1))
+
+-- the first condition that holds is that of the first need that is not met
+first-unmet : (n : ℕ) (cs : List Condition) (ns : List Need) → InStep cs ns → FirstToHold n cs → FirstUnmet n ns
+first-unmet n ((m when x) ∷ cs) ((k needs P) ∷ ns) s (inl h) = inl (λ p. true≢false (sym (h .0) ∙ s .1 .0 .unmet p), sym (s .0) ∙ h .1)
+first-unmet n ((m when x) ∷ cs) ((k needs P) ∷ ns) s (inr h) = inr (s .1 .0 .met (h .0), first-unmet n cs ns (s .1 .1) (h .1))
+
+first-holds : (n : ℕ) (cs : List Condition) (ns : List Need) → InStep cs ns → FirstUnmet n ns → FirstToHold n cs
+first-holds n [] ((k needs P) ∷ ns) s h = absurd s
+first-holds n ((m when true) ∷ cs) ((k needs P) ∷ ns) s (inl h) = inl (refl, s .0 ∙ h .1)
+first-holds n ((m when false) ∷ cs) ((k needs P) ∷ ns) s (inl h) = absurd (h .0 (s .1 .0 .met refl))
+first-holds n ((m when x) ∷ cs) ((k needs P) ∷ ns) s (inr h) = inr (s .1 .0 .unmet (h .0), first-holds n cs ns (s .1 .1) (h .1))
+
+-- those of each call are
+in-step : (k : Request) (b : Buffers) → InStep (conditions k b) (needsOf k b)
 unfolding conditions
-needs-where k b none = met k b (λ n. unmet n (conditions k b) none)
-
--- a call that is done has its needs met
-pub needs-met : (k : Request) (b : Buffers) → perform k b .answer ≡ 0 → Needs k b
-needs-met k b done = needs-where k b (none-holds k b done)
-
--- the tests of a delete: of its kind, of its row and of both keys
-module _ (b : Buffers) (j : ℕ) (f : Fillers) where
-  record DeleteTests : Type 0 where
-    kind : not (isCopy (kindAt b j) || isFull (kindAt b j)) ≡ false
-    row : (isFull (kindAt b j) && not (isAway (stateAt b (contentAt b j)))) ≡ false
-    key : (isFull (kindAt b j) && leavesKey (f .f2) (ruleAt (b .rules) j)) ≡ false
-
-  delete-tests : Deletable j f b → DeleteTests
-  delete-tests (a-copy k) = record { kind = rw k; row = rw k; key = rw k }
-  delete-tests (a-holder k away key) = record { kind = rw k; row = rw (k, away); key = rw k (ne-eqb _ _ key) }
-
-none-met : (k : Request) (b : Buffers) → Needs k b → NoneHolds (conditions k b)
-unfolding conditions
-none-met (Register c f) b n = (numbers (n .content), (facts-pass f (n .facts), (holds-not (n .ledger), (holds-not (ap isEmpty (n .empty)), tt))))
-none-met (Record c j f h) b n = (
-  numbers (n .content),
+in-step (Register c f) b =
+    (refl, (tests-number (c .0), (refl, (tests-facts f, (refl, (tests-ledger (b .ledger), (refl, (tests-empty (stateAt b (c .0)), tt))))))))
+in-step (Record c j f h) b = (
+  refl,
   (
-    numbers (n .entry),
+    tests-number (c .0),
     (
-      facts-pass f (n .facts),
+      refl,
       (
-        holds-not (n .heads .ledger),
+        tests-number (j .0),
         (
-          holds-not (n .heads .titles),
+          refl,
           (
-            rules-right b (n .heads),
-            (holds-not (ap isFree (n .free)), (holds-not (ap isEmpty (n .empty)), tt)),
-          ),
-        ),
-      ),
-    ),
-  ),
-)
-none-met (CheckOut c j) b n = (
-  numbers (n .content),
-  (
-    numbers (n .entry),
-    (
-      holds-not (n .heads .ledger),
-      (
-        holds-not (n .heads .titles),
-        (
-          rules-right b (n .heads),
-          (holds-not (ap isFree (n .free)), (holds-not (ap isHere (n .here)), (ne-eqb _ 0 (n .permit-left), tt))),
-        ),
-      ),
-    ),
-  ),
-)
-none-met (CheckIn j f1) b n = (
-  numbers (n .entry),
-  (
-    holds-not (n .heads .ledger),
-    (
-      holds-not (n .heads .titles),
-      (
-        rules-right b (n .heads),
-        (holds-not (ap isCopy (n .copy)), (holds-not (ap isHere (n .here)), (ne-eqb _ 14 (n .not-14), (ne-eqb _ _ (n .title-key), tt)))),
-      ),
-    ),
-  ),
-)
-none-met (MoveOut j h f) b n = (
-  numbers (n .entry),
-  (
-    holds-not (n .heads .ledger),
-    (
-      holds-not (n .heads .titles),
-      (
-        rules-right b (n .heads),
-        (
-          holds-not (ap isFull (n .full)),
-          (
-            holds-not (ap isAway (n .away)),
+            tests-facts f,
             (
-              moves _ (n .may-move),
+              refl,
               (
-                holds-not (eq-eqb _ _ (n .hash)),
-                (nor (ne-eqb _ _ (n .title-key)) (ne-eqb _ _ (n .sti-key)), tt),
+                tests-ledger (b .ledger),
+                (
+                  refl,
+                  (
+                    tests-titles (b .titles),
+                    (
+                      refl,
+                      (
+                        tests-rules b,
+                        (refl, (tests-free (kindAt b (j .0)), (refl, (tests-empty (stateAt b (c .0)), tt)))),
+                      ),
+                    ),
+                  ),
+                ),
               ),
             ),
           ),
@@ -343,40 +298,203 @@ none-met (MoveOut j h f) b n = (
     ),
   ),
 )
-none-met (MoveIn c j h) b n = (
-  numbers (n .content),
+in-step (CheckOut c j) b = (
+  refl,
   (
-    numbers (n .entry),
+    tests-number (c .0),
     (
-      holds-not (n .heads .ledger),
+      refl,
       (
-        holds-not (n .heads .titles),
+        tests-number (j .0),
         (
-          rules-right b (n .heads),
-          (holds-not (ap isFree (n .free)), (holds-not (ap isHere (n .here)), (moves _ (n .may-move), (holds-not (eq-eqb _ 0 (none-counts (c .0) b (n .no-copy))), tt)))),
+          refl,
+          (
+            tests-ledger (b .ledger),
+            (
+              refl,
+              (
+                tests-titles (b .titles),
+                (
+                  refl,
+                  (
+                    tests-rules b,
+                    (refl, (tests-free (kindAt b (j .0)), (refl, (tests-here (stateAt b (c .0)), (refl, (tests-other (rowFacts b (c .0) .permits) 0, tt)))))),
+                  ),
+                ),
+              ),
+            ),
+          ),
         ),
       ),
     ),
   ),
 )
-none-met (Delete j f) b n =
-    let d = delete-tests b (j .0) f (n .deletable) in (
-      numbers (n .entry),
+in-step (CheckIn j f1) b =
+    let c = contentAt b (j .0) in (
+      refl,
       (
-        holds-not (n .heads .ledger),
+        tests-number (j .0),
         (
-          holds-not (n .heads .titles),
+          refl,
           (
-            rules-right b (n .heads),
-            (d .kind, (d .row, (nor (ne-eqb _ _ (n .title-key)) (d .key), tt))),
+            tests-ledger (b .ledger),
+            (
+              refl,
+              (
+                tests-titles (b .titles),
+                (
+                  refl,
+                  (
+                    tests-rules b,
+                    (refl, (tests-copy (kindAt b (j .0)), (refl, (tests-here (stateAt b c), (refl, (tests-other (rowFacts b c .permits) 14, (refl, (tests-other _ _, tt)))))))),
+                  ),
+                ),
+              ),
+            ),
+          ),
+        ),
+      ),
+    )
+in-step (MoveOut j h f) b = (
+  refl,
+  (
+    tests-number (j .0),
+    (
+      refl,
+      (
+        tests-ledger (b .ledger),
+        (
+          refl,
+          (
+            tests-titles (b .titles),
+            (
+              refl,
+              (
+                tests-rules b,
+                (
+                  refl,
+                  (
+                    tests-full (kindAt b (j .0)),
+                    (
+                      refl,
+                      (
+                        tests-away (stateAt b (contentAt b (j .0))),
+                        (
+                          refl,
+                          (
+                            tests-move (factsAt b (j .0)),
+                            (
+                              refl,
+                              (
+                                tests-same h _,
+                                (refl, (tests-both (tests-other _ _) (tests-other _ _), tt)),
+                              ),
+                            ),
+                          ),
+                        ),
+                      ),
+                    ),
+                  ),
+                ),
+              ),
+            ),
+          ),
+        ),
+      ),
+    ),
+  ),
+)
+in-step (MoveIn c j h) b = (
+  refl,
+  (
+    tests-number (c .0),
+    (
+      refl,
+      (
+        tests-number (j .0),
+        (
+          refl,
+          (
+            tests-ledger (b .ledger),
+            (
+              refl,
+              (
+                tests-titles (b .titles),
+                (
+                  refl,
+                  (
+                    tests-rules b,
+                    (refl, (tests-free (kindAt b (j .0)), (refl, (tests-here (stateAt b (c .0)), (refl, (tests-move (rowFacts b (c .0)), (refl, (tests-copies (c .0) b, tt)))))))),
+                  ),
+                ),
+              ),
+            ),
+          ),
+        ),
+      ),
+    ),
+  ),
+)
+in-step (Delete j f) b =
+    let k = kindAt b (j .0) in (
+      refl,
+      (
+        tests-number (j .0),
+        (
+          refl,
+          (
+            tests-ledger (b .ledger),
+            (
+              refl,
+              (
+                tests-titles (b .titles),
+                (
+                  refl,
+                  (
+                    tests-rules b,
+                    (
+                      refl,
+                      (
+                        tests-either k,
+                        (
+                          refl,
+                          (
+                            tests-if-full k (tests-away (stateAt b (contentAt b (j .0)))),
+                            (refl, (tests-both (tests-other _ _) (tests-if-full k (tests-other _ _)), tt)),
+                          ),
+                        ),
+                      ),
+                    ),
+                  ),
+                ),
+              ),
+            ),
           ),
         ),
       ),
     )
 
--- and a call whose needs are met is done
-pub done-where : (k : Request) (b : Buffers) → Needs k b → perform k b .answer ≡ 0
-done-where k b n = answer-first k b ∙ of-none (conditions k b) (none-met k b n)
+module _ (k : Request) (b : Buffers) where
+  -- where none holds, the needs are met
+  pub needs-where : NoneHolds (conditions k b) → Named k b
+  needs-where none = named k b (all-met (conditions k b) (needsOf k b) (in-step k b) none)
+
+  -- a call that is done has its needs met, and a call whose needs are met is done
+  pub all-needs-met : perform k b .answer ≡ 0 → Needs k b
+  all-needs-met done = all-met (conditions k b) (needsOf k b) (in-step k b) (none-holds k b done)
+
+  pub needs-met : perform k b .answer ≡ 0 → Named k b
+  needs-met done = named k b (all-needs-met done)
+
+  pub done-where : Needs k b → perform k b .answer ≡ 0
+  done-where n = answer-first k b ∙ of-none (conditions k b) (none-hold (conditions k b) (needsOf k b) (in-step k b) n)
+
+  -- a call with a need that is not met is answered the number of the first, and no other is
+  pub refused-where : (n : ℕ) → FirstUnmet n (needsOf k b) → perform k b .answer ≡ n
+  refused-where n h = answer-first k b ∙ of-first n (conditions k b) (first-holds n (conditions k b) (needsOf k b) (in-step k b) h)
+
+  pub unmet-where : (n : ℕ) → n ≢ 0 → perform k b .answer ≡ n → FirstUnmet n (needsOf k b)
+  unmet-where n some e = first-unmet n (conditions k b) (needsOf k b) (in-step k b) (to-first n (conditions k b) some (sym (answer-first k b) ∙ e))
 
 -- THE PLACES of a call whose needs are met
 
@@ -391,9 +509,9 @@ pub found : (b : Buffers) (j : ℕ) → Within 999 j → HeadsPass b → OnCard 
 found b j in-table p =
     record {
       entry = in-table;
-      head = ledger-head (b .ledger) (p .ledger);
-      titles-long = titles-length (b .titles) (p .titles);
-      rules-long = rules-length (b .rules) (p .rules);
+      head = p .ledger;
+      titles-long = p .titles .table .long;
+      rules-long = p .rules .head .table .long;
     }
 
 -- every call but register has one
@@ -406,7 +524,7 @@ CardOf (MoveOut j h f) b = OnCard b (j .0)
 CardOf (MoveIn c j h) b = OnCard b (j .0)
 CardOf (Delete j f) b = OnCard b (j .0)
 
-pub on-card : (k : Request) (b : Buffers) → Needs k b → CardOf k b
+pub on-card : (k : Request) (b : Buffers) → Named k b → CardOf k b
 on-card (Register c f) b n = tt
 on-card (Record c j f h) b n = found b (j .0) (n .entry) (n .heads)
 on-card (CheckOut c j) b n = found b (j .0) (n .entry) (n .heads)
@@ -423,8 +541,8 @@ InState Away = true
 InState Gone = true
 InState NoState = false
 
-pub row-in : (b : Buffers) (c : ℕ) (s : RowState) → InState s ≡ true → ledgerPasses (b .ledger) ≡ true → stateAt b c ≡ s → IsRow (b .ledger) c
-row-in b c s some head e = in-a-state (b .ledger) c (ledger-head (b .ledger) head) (λ none. true≢false (sym some ∙ ap InState (sym e ∙ none)))
+pub row-in : (b : Buffers) (c : ℕ) (s : RowState) → InState s ≡ true → LedgerHead (b .ledger) → stateAt b c ≡ s → IsRow (b .ledger) c
+row-in b c s some head e = in-a-state (b .ledger) c head (λ none. true≢false (sym some ∙ ap InState (sym e ∙ none)))
 
 -- every call but delete has one
 abbrev pub RowOf : Request → Buffers → Type 0
@@ -436,7 +554,7 @@ RowOf (MoveOut j h f) b = IsRow (b .ledger) (contentAt b (j .0))
 RowOf (MoveIn c j h) b = IsRow (b .ledger) (c .0)
 RowOf (Delete j f) b = Unit {0}
 
-pub its-row : (k : Request) (b : Buffers) → Needs k b → RowOf k b
+pub its-row : (k : Request) (b : Buffers) → Named k b → RowOf k b
 its-row (Register c f) b n = row-in b (c .0) Empty refl (n .ledger) (n .empty)
 its-row (Record c j f h) b n = row-in b (c .0) Empty refl (n .heads .ledger) (n .empty)
 its-row (CheckOut c j) b n = row-in b (c .0) (Here (rowFacts b (c .0))) refl (n .heads .ledger) (n .here)

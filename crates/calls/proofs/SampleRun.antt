@@ -8,24 +8,22 @@ use mathlib.Core.List.{List, [], _∷_}
 use mathlib.Core.Option.{some}
 use native.Mathlib.Omega.{arith}
 use native.Mathlib.Decide.{ℕ-discrete}
-use borrow.Author.Tests.{eq-eqb, ne-eqb}
 use Rattle.formats.specs.Entry.{kindOf, entryFacts}
 use Rattle.formats.specs.Row.{hereRow}
 use Rattle.formats.specs.declared.facts.Facts.{Facts}
 use Rattle.formats.specs.declared.entry.EntryKind.the-variants.{Free, Copy, Full}
 use Rattle.formats.specs.declared.row.RowState.the-variants.{Empty, Here, Away}
 use Rattle.requests.specs.declared.request.Request.{Request}
-use Rattle.formats.proofs.head.Laws.{ledger-head}
-use Rattle.calls.specs.Buffers.{Buffers, titleAt, ruleAt, stateAt, rowFacts, hereFacts, kindAt, contentAt, factsAt, titleKey, stiKey, isFree, isHere, fresh, Within}
+use Rattle.calls.specs.Buffers.{Buffers, titleAt, ruleAt, stateAt, rowFacts, hereFacts, kindAt, contentAt, factsAt, titleKey, stiKey, fresh, Within}
 use Rattle.calls.specs.Count.{oneLess, oneMore}
-use Rattle.calls.specs.Conditions.{conditions}
 use Rattle.calls.specs.Perform.{perform, answers, AreBytes}
-use Rattle.calls.specs.Needs.{FactsInRange, HeadsPass, MayMove, a-copy, a-holder, Needs}
+use Rattle.calls.specs.Needs.{FactsInRange, MayMove, Needs}
 use Rattle.calls.specs.Untouched.{titleWritten}
 use Rattle.calls.specs.Work.{RowIs, Recounted, PermitsBecome, FullEntry}
 use Rattle.calls.specs.SampleRun.{sampleFacts, twoMoves, registration, checkOut, checkIn, moveIn, recording, moveOut, deletion, SampleRun, EveryCallDone}
-use Rattle.calls.proofs.Refusals.{of-first, answer-first, unchanged, holds-not, fails-so}
-use Rattle.calls.proofs.Passed.{numbers, rules-right, moves, copy-counts, found}
+use Rattle.calls.proofs.Refusals.{unchanged}
+use Rattle.calls.proofs.Named.{HeadsPass, a-copy, a-holder, unnamed}
+use Rattle.calls.proofs.Passed.{found}
 use Rattle.calls.proofs.Views.{row-else, kind-else}
 use Rattle.calls.proofs.Untouched.{untouched, rule-with-title, heads-kept}
 use Rattle.calls.proofs.InBounds.{in-bounds}
@@ -161,12 +159,13 @@ registered c f is in-range =
     let k = registration c f in
     let p = fresh-heads 64 0 (omega arith) (omega arith) (omega arith) in
     let n : Needs k b =
-    record {
+    unnamed k b
+    (record {
       content = record { from = is .from; to = omega (arith, is .to) };
       facts = in-range;
       ledger = p .ledger;
       empty = fresh-empty 64 0 0 (omega arith) c is;
-    } in
+    }) in
     let w = work-is-done k b in
     let l = w .leaves (fresh-bytes 64 0 0) n in
     record {
@@ -177,7 +176,7 @@ registered c f is in-range =
             heads = heads-kept k b p;
             row = l .row .reads;
             others = λ d there ne.
-                row-else (w .untouched .rows) (ledger-head (b .ledger) (p .ledger)) d (λ e. let same : _≡_ {A = ℕ} c d = cc in ne (sym same))
+                row-else (w .untouched .rows) (p .ledger) d (λ e. let same : _≡_ {A = ℕ} c d = cc in ne (sym same))
                 ∙ fresh-empty 64 0 0 (omega arith) d there;
             free = λ i m. ap₂ (λ (t r : List ℕ). kindOf (titleAt t i) (ruleAt r i)) (l .titles) (l .rules) ∙ fresh-free 64 0 0 i m;
           };
@@ -201,14 +200,15 @@ recorded : (b : Buffers) → Registered 2 sampleFacts b → Goes recording b AtS
 recorded b s =
     let o : Open b = record { bytes = s .bytes; heads = s .heads; free = λ i l ne. s .free i l } in
     let n : Needs recording b =
-    record {
+    unnamed recording b
+    (record {
       content = one;
       entry = seven;
       facts = in-range 2 (omega arith);
       heads = s .heads;
       free = s .free 7 seven;
       empty = s .others 1 (record { from = omega arith; to = omega arith }) (λ e. omega arith);
-    } in
+    }) in
     let w = work-is-done recording b in
     let l = w .leaves (s .bytes) n in
     record { done = w .done n; after = record { tables = open-after recording b refl o; away = l .row .reads; entry = l .entry } }
@@ -219,7 +219,8 @@ unfolding oneLess
 moved-out b s =
     let e = s .entry in
     let n : Needs moveOut b =
-    record {
+    unnamed moveOut b
+    (record {
       entry = seven;
       heads = s .tables .heads;
       full = e .full;
@@ -228,7 +229,7 @@ moved-out b s =
       hash = sym (e .hash (omega arith));
       title-key = λ z. let x : _≡_ {A = ℕ} 9 5 = z ∙ keys-in b 7 .0 ∙ ap (λ (f : Facts). f .«title_key») (e .facts) in omega arith;
       sti-key = λ z. let x : _≡_ {A = ℕ} 9 6 = z ∙ keys-in b 7 .1 ∙ ap (λ (f : Facts). f .«sti_key») (e .facts) in omega arith;
-    } in
+    }) in
     let w = work-is-done moveOut b in
     let l = w .leaves (s .tables .bytes) n in
     let row : RowIs (perform moveOut b .buffers) 1 (Here (rowFacts (perform moveOut b .buffers) 1)) (hereRow (rowFacts (perform moveOut b .buffers) 1)) = rw (e .id) at (l .row) in
@@ -263,7 +264,8 @@ lent-out b h =
     let s = h .standing in
     let o = s .tables in
     let n : Needs k b =
-    record { content = one; entry = seven; heads = o .heads; free = h .free-7; here = s .here; permit-left = λ e. omega (arith, s .facts .permits-are) } in
+    unnamed k b
+    (record { content = one; entry = seven; heads = o .heads; free = h .free-7; here = s .here; permit-left = λ e. omega (arith, s .facts .permits-are) }) in
     let w = work-is-done k b in
     let l = w .leaves (o .bytes) n in
     record {
@@ -288,14 +290,15 @@ unfolding oneMore
 checked-in b s =
     let i = s .standing in
     let n : Needs checkIn b =
-    record {
+    unnamed checkIn b
+    (record {
       entry = seven;
       heads = i .tables .heads;
       copy = s .copy;
       here = rw (s .id) (i .here);
       not-14 = rw (s .id) (λ e. omega (arith, i .facts .permits-are));
       title-key = λ e. let z : _≡_ {A = ℕ} 9 5 = e ∙ s .key in omega arith;
-    } in
+    }) in
     let w = work-is-done checkIn b in
     let l = w .leaves (i .tables .bytes) n in
     let row : PermitsBecome b (perform checkIn b .buffers) 1 (oneMore (rowFacts b 1 .permits)) = rw (s .id) at (l .row) in
@@ -319,7 +322,8 @@ copy-deleted b s =
     let k = deletion 7 in
     let i = s .standing in
     let n : Needs k b =
-    record { entry = seven; heads = i .tables .heads; deletable = a-copy (s .copy); title-key = λ e. let z : _≡_ {A = ℕ} 9 5 = e ∙ s .key in omega arith } in
+    unnamed k b
+    (record { entry = seven; heads = i .tables .heads; deletable = a-copy (s .copy); title-key = λ e. let z : _≡_ {A = ℕ} 9 5 = e ∙ s .key in omega arith }) in
     let w = work-is-done k b in
     let l = w .leaves (i .tables .bytes) n .of-copy (s .copy) in
     record {
@@ -338,7 +342,8 @@ moved-in b permits h =
     let o = s .tables in
     let all-free : (i : ℕ) → Within 999 i → kindAt b i ≡ Free = λ i l. elim (ℕ-discrete i 7) [ yes e ↦ rw e (h .free-7) | no ne ↦ o .free i l ne ] in
     let n : Needs moveIn b =
-    record {
+    unnamed moveIn b
+    (record {
       content = one;
       entry = nine;
       heads = o .heads;
@@ -346,7 +351,7 @@ moved-in b permits h =
       here = s .here;
       may-move = may-move-1 (s .facts);
       no-copy = λ i l copy. let z : _≡_ {A = ℕ} 0 1 = cc (all-free i l) in absurd (omega arith);
-    } in
+    }) in
     let w = work-is-done moveIn b in
     let l = w .leaves (o .bytes) n in
     let after = perform moveIn b .buffers in
@@ -367,40 +372,39 @@ moved-in b permits h =
 holder-deleted : (b : Buffers) → AtNine b → perform (deletion 9) b .answer ≡ 0
 holder-deleted b s =
     work-is-done (deletion 9) b .done
+    (unnamed (deletion 9) b
     (record {
       entry = nine;
       heads = s .heads;
       deletable = a-holder (s .full) (rw (s .id) (s .away)) (λ e. let z : _≡_ {A = ℕ} 9 6 = e ∙ s .sti-key in omega arith);
       title-key = λ e. let z : _≡_ {A = ℕ} 9 5 = e ∙ s .title-key in omega arith;
-    })
+    }))
 
 -- REFUSED
 
 -- 6 move in, while the copy is out
 move-in-refused : (b : Buffers) → Lent b → perform moveIn b .answer ≡ 14
-unfolding conditions
 move-in-refused b s =
     let i = s .standing in
     let p = i .tables .heads in
-    answer-first moveIn b
-    ∙ of-first 14 (conditions moveIn b)
+    work-is-done moveIn b .refused 14
     (inr (
-      numbers one,
+      one,
       inr (
-        numbers nine,
+        nine,
         inr (
-          holds-not (p .ledger),
+          p .ledger,
           inr (
-            holds-not (p .titles),
+            p .titles,
             inr (
-              rules-right b p,
+              p .rules,
               inr (
-                holds-not (ap isFree (i .tables .free 9 nine (λ e. omega arith))),
+                i .tables .free 9 nine (λ e. omega arith),
                 inr (
-                  holds-not (ap isHere (i .here)),
+                  i .here,
                   inr (
-                    moves _ (may-move-1 (i .facts)),
-                    inl (fails-so (ne-eqb _ 0 (copy-counts 1 b 7 seven (s .copy) (s .id))), refl),
+                    may-move-1 (i .facts),
+                    inl (λ none. none 7 seven (s .copy) (s .id), refl),
                   ),
                 ),
               ),
@@ -412,23 +416,27 @@ move-in-refused b s =
 
 -- 3 check-out, with no permit left
 check-out-refused : (b : Buffers) → Lent b → perform (checkOut 8) b .answer ≡ 12
-unfolding conditions
 check-out-refused b s =
     let i = s .standing in
     let p = i .tables .heads in
-    answer-first (checkOut 8) b
-    ∙ of-first 12 (conditions (checkOut 8) b)
+    work-is-done (checkOut 8) b .refused 12
     (inr (
-      numbers one,
+      one,
       inr (
-        numbers eight,
+        eight,
         inr (
-          holds-not (p .ledger),
+          p .ledger,
           inr (
-            holds-not (p .titles),
+            p .titles,
             inr (
-              rules-right b p,
-              inr (holds-not (ap isFree (i .tables .free 8 eight (λ e. omega arith))), inr (holds-not (ap isHere (i .here)), inl (eq-eqb _ 0 (i .facts .permits-are), refl))),
+              p .rules,
+              inr (
+                i .tables .free 8 eight (λ e. omega arith),
+                inr (
+                  i .here,
+                  inl (λ left. left (i .facts .permits-are), refl),
+                ),
+              ),
             ),
           ),
         ),

@@ -17,7 +17,7 @@ use Rattle.formats.specs.declared.facts.Fillers.{Fillers}
 use Rattle.formats.specs.declared.row.RowState.the-variants.{Away}
 use Rattle.requests.specs.declared.request.Request.{Request}
 use Rattle.requests.specs.declared.request.Request.the-variants.{Register, Record, CheckOut, CheckIn, MoveOut, MoveIn, Delete}
-use Rattle.formats.proofs.head.Laws.{ledger-application-kept, ledger-kept, titles-kept, rules-kept, rules-application-kept}
+use Rattle.formats.proofs.head.Laws.{ledger-head, ledger-passes, titles-head, titles-pass, rules-head, rules-pass, ledger-application-kept, ledger-kept, titles-kept, rules-kept, rules-application-kept}
 use Rattle.formats.proofs.half.Laws.{wiped-length}
 use Rattle.formats.proofs.title.Laws.{length-titleHalf}
 use Rattle.formats.proofs.rule.Laws.{length-ruleHalf, wipedRule-length}
@@ -26,9 +26,9 @@ use Rattle.calls.specs.Count.{oneLess, oneMore}
 use Rattle.calls.specs.Buffers.{Buffers, rowAt, titleAt, ruleAt, rowFacts, kindAt, contentAt, factsAt, isFull}
 use Rattle.calls.specs.Effect.{afterMove, effect}
 use Rattle.calls.specs.Perform.{perform}
-use Rattle.calls.specs.Needs.{HeadsPass, a-copy, a-holder, Needs}
 use Rattle.calls.specs.Untouched.{titleWritten, ruleWritten, SlotsKept, Untouched}
 use Rattle.calls.proofs.Refusals.{either-way, call-refused-first}
+use Rattle.calls.proofs.Named.{HeadsPass, a-copy, a-holder, Named}
 use Rattle.calls.proofs.Passed.{needs-where, OnCard, on-card, its-row, row-in}
 use Rattle.calls.proofs.Slots.{slots-kept, all-kept}
 use Rattle.calls.proofs.Views.{IsRow, row-inside, row-length, entry-length, entries-kept}
@@ -63,7 +63,7 @@ module _ (b : Buffers) where
   rule-kept : (j : ℕ) (r : List ℕ) → OnCard b j → length r ≡ 32 → SlotsKept 32 (some j) (b .rules) (put (b .rules) (32 * j) r)
   rule-kept j r o size = entries-kept 32 (b .rules) (o .rules-long) r size j (o .entry)
 
-  effect-keeps : (k : Request) → Needs k b → Untouched k b (effect k b)
+  effect-keeps : (k : Request) → Named k b → Untouched k b (effect k b)
   unfolding effect
   effect-keeps (Register c f) n =
       record { rows = row-kept (c .0) _ (its-row (Register c f) b n) (here-length f); titles = all-kept 16 none (b .titles); rules = all-kept 32 none (b .rules) }
@@ -135,13 +135,16 @@ heads-kept k b p =
     let t = untouched k b .titles in
     let r = untouched k b .rules in
     record {
-      ledger = ledger-kept 24 (b .ledger) (after .ledger) (l .same-length) (l .head) (omega arith) ∙ p .ledger;
-      titles = titles-kept 16 (b .titles) (after .titles) (t .same-length) (t .head) (omega arith) ∙ p .titles;
-      rules = rules-kept 32 (b .rules) (after .rules) (r .same-length) (r .head) (omega arith) ∙ p .rules;
-      application =
-          rules-application-kept 32 (b .rules) (after .rules) (r .same-length) (r .head) (omega arith)
-          ∙ p .application
-          ∙ sym (ledger-application-kept 24 (b .ledger) (after .ledger) (l .same-length) (l .head) (omega arith));
+      ledger = ledger-head (after .ledger) (ledger-kept 24 (b .ledger) (after .ledger) (l .same-length) (l .head) (omega arith) ∙ ledger-passes (p .ledger));
+      titles = titles-head (titles-kept 16 (b .titles) (after .titles) (t .same-length) (t .head) (omega arith) ∙ titles-pass (p .titles));
+      rules =
+          record {
+            head = rules-head (rules-kept 32 (b .rules) (after .rules) (r .same-length) (r .head) (omega arith) ∙ rules-pass (p .rules .head));
+            application =
+                rules-application-kept 32 (b .rules) (after .rules) (r .same-length) (r .head) (omega arith)
+                ∙ p .rules .application
+                ∙ sym (ledger-application-kept 24 (b .ledger) (after .ledger) (l .same-length) (l .head) (omega arith));
+          };
     }
 
 -- a call that leaves an entry's title half alone leaves its rule half alone

@@ -20,9 +20,9 @@ use Rattle.requests.specs.declared.request.Request.the-variants.{CheckOut, Chec
 use Rattle.requests.specs.declared.request.RequestRead.the-variants.{Read, Refused}
 use Rattle.formats.specs.declared.entry.EntryKind.the-variants.{Copy, Full, Torn}
 use Rattle.formats.specs.declared.row.RowState.the-variants.{Here}
-use Rattle.calls.specs.Buffers.{Buffers, stateAt, rowFacts, kindAt, contentAt, factsAt, Within}
+use Rattle.calls.specs.Buffers.{Buffers, stateAt, rowFacts, kindAt, contentAt, factsAt}
 use Rattle.calls.specs.Perform.{perform, AreBytes}
-use Rattle.calls.specs.Needs.{HeadsPass, Needs}
+use Rattle.calls.specs.Needs.{MetBelow, needsOf, Needs}
 
 -- a number and its bytes, as it is written and as it is read
 abbrev pub NumberBytes : ℕ → List ℕ → Type 0
@@ -128,17 +128,10 @@ ChecksIn before after =
     (b : Buffers) (j : EntryNumber) (f1 : ℕ) → AreBytes b → Needs (CheckIn j f1) b → rowFacts b (contentAt b (j .0)) .permits ≡ before
     → (perform (CheckIn j f1) b .answer ≡ 0) × PermitsInRow (perform (CheckIn j f1) b .buffers) (contentAt b (j .0)) after
 
--- what a check-in needs before its row's permits are looked at
-pub record NeedsUntil15 (b : Buffers) (j : ℕ) : Type 0 where
-  pub entry : Within 999 j
-  pub heads : HeadsPass b
-  pub copy : kindAt b j ≡ Copy
-  pub here : stateAt b (contentAt b j) ≡ Here (rowFacts b (contentAt b j))
-
 -- E9: check-in at permits 13 gives 14; at 14 it is refused with 15; at 15 they stay 15
 pub record E9 : Type 0 where
   pub at-13 : ChecksIn 13 14
-  pub at-14 : (b : Buffers) (j : EntryNumber) (f1 : ℕ) → NeedsUntil15 b (j .0) → rowFacts b (contentAt b (j .0)) .permits ≡ 14
+  pub at-14 : (b : Buffers) (j : EntryNumber) (f1 : ℕ) → MetBelow 15 (needsOf (CheckIn j f1) b) → rowFacts b (contentAt b (j .0)) .permits ≡ 14
       → perform (CheckIn j f1) b .answer ≡ 15
   pub at-15 : ChecksIn 15 15
 

@@ -1,17 +1,42 @@
--- What each call needs in order to be done: the sentences of "The seven calls" and of the refusals, said as facts. Nothing here
--- goes by `Conditions`; that the two agree is a statement (`Work`).
+-- What each call needs in order to be done, as facts with the number that it is answered where one does not hold: the sentences of
+-- "The seven calls" and of the refusals. Nothing here goes by `Conditions`; that the two agree is a statement (`Work`).
 use Prim.Native.Nat.{ℕ, _%_, _^_, _≤_, _<_}
 use mathlib.Core.Path.{_≡_}
-use mathlib.Core.Logic.{_≢_}
-use mathlib.Core.Bool.{true}
-use Rattle.formats.specs.Head.{ledgerPasses, ledgerApplication, titlesPass, rulesPass, rulesApplication}
+use mathlib.Core.Logic.{_≢_, _⊎_}
+use mathlib.Core.List.{List, [], _∷_, _++_}
+use mathlib.Core.Bool.{Bool, true, false}
+use lib.Dec.{ltb}
+use Rattle.formats.specs.Head.{LedgerHead, TitlesHead, RulesHead, ledgerApplication, rulesApplication}
 use Rattle.formats.specs.declared.facts.Facts.{Facts}
-use Rattle.formats.specs.declared.facts.Fillers.{Fillers}
 use Rattle.formats.specs.declared.entry.EntryKind.the-variants.{Free, Copy, Full}
 use Rattle.formats.specs.declared.row.RowState.the-variants.{Empty, Here, Away}
 use Rattle.requests.specs.declared.request.Request.{Request}
 use Rattle.requests.specs.declared.request.Request.the-variants.{Register, Record, CheckOut, CheckIn, MoveOut, MoveIn, Delete}
 use Rattle.calls.specs.Buffers.{Buffers, stateAt, rowFacts, kindAt, contentAt, factsAt, titleKey, stiKey, hashAt, Within}
+
+-- a fact, and the number that is answered where it does not hold
+pub data Need : Type 1 where
+  _needs_ : ℕ → Type 0 → Need
+
+infix 70 _needs_
+-- all of them hold
+abbrev pub AllMet : List Need → Type 0
+AllMet [] = Unit
+AllMet ((n needs P) ∷ rest) = P × AllMet rest
+
+-- the one of number n does not hold, and all before it do
+abbrev pub FirstUnmet : ℕ → List Need → Type 0
+FirstUnmet n [] = ⊥
+FirstUnmet n ((m needs P) ∷ rest) = ((P → ⊥) × (m ≡ n)) ⊎ (P × FirstUnmet n rest)
+
+-- those of a number below n hold
+abbrev pub Where : Bool → Type 0 → Type 0
+Where true P = P
+Where false P = Unit
+
+abbrev pub MetBelow : ℕ → List Need → Type 0
+MetBelow n [] = Unit
+MetBelow n ((m needs P) ∷ rest) = Where (ltb m n) P × MetBelow n rest
 
 -- "CCI 1 or above 3, trigger above 1, rights or permits above 15, a key of 2^56 or more": none of these
 pub record FactsInRange (f : Facts) : Type 0 where
@@ -23,11 +48,9 @@ pub record FactsInRange (f : Facts) : Type 0 where
   pub title-key : f .«title_key» < 2 ^ 56
   pub sti-key : f .«sti_key» < 2 ^ 56
 
--- the lengths and heads of ledger and card are right, and the card is of the ledger's application
-pub record HeadsPass (b : Buffers) : Type 0 where
-  pub ledger : ledgerPasses (b .ledger) ≡ true
-  pub titles : titlesPass (b .titles) ≡ true
-  pub rules : rulesPass (b .rules) ≡ true
+-- the rule table's length and head are right, and the card is of the ledger's application
+pub record RulesOfLedger (b : Buffers) : Type 0 where
+  pub head : RulesHead (b .rules)
   pub application : rulesApplication (b .rules) ≡ ledgerApplication (b .ledger)
 
 -- a title with these facts may move: trigger not 1, and a move right is left
@@ -43,78 +66,78 @@ WipesTitleKey b j f1 = f1 % 2 ^ 56 ≢ titleKey b j
 abbrev pub WipesStiKey : Buffers → ℕ → ℕ → Type 0
 WipesStiKey b j f2 = f2 % 2 ^ 56 ≢ stiKey b j
 
+-- no entry of the card is a copy of c
+abbrev pub NoCopy : Buffers → ℕ → Type 0
+NoCopy b c = (i : ℕ) → Within 999 i → kindAt b i ≡ Copy → contentAt b i ≢ c
+
+-- the heads of ledger and card
+abbrev pub headNeeds : Buffers → List Need
+headNeeds b = 7 needs LedgerHead (b .ledger) ∷ 8 needs TitlesHead (b .titles) ∷ 9 needs RulesOfLedger b ∷ []
+
 -- 1 register (c, facts): "row empty". It is lent the ledger only.
-pub record RegisterNeeds (c : ℕ) (f : Facts) (b : Buffers) : Type 0 where
-  pub content : Within 999 c
-  pub facts : FactsInRange f
-  pub ledger : ledgerPasses (b .ledger) ≡ true
-  pub empty : stateAt b c ≡ Empty
-
 -- 2 record (c, j, facts, h): "row empty, entry free"
-pub record RecordNeeds (c j : ℕ) (f : Facts) (b : Buffers) : Type 0 where
-  pub content : Within 999 c
-  pub entry : Within 999 j
-  pub facts : FactsInRange f
-  pub heads : HeadsPass b
-  pub free : kindAt b j ≡ Free
-  pub empty : stateAt b c ≡ Empty
-
 -- 3 check-out (c, j): "row here, entry free", and a permit left
-pub record CheckOutNeeds (c j : ℕ) (b : Buffers) : Type 0 where
-  pub content : Within 999 c
-  pub entry : Within 999 j
-  pub heads : HeadsPass b
-  pub free : kindAt b j ≡ Free
-  pub here : stateAt b c ≡ Here (rowFacts b c)
-  pub permit-left : rowFacts b c .permits ≢ 0
-
 -- 4 check-in (j, f1): "entry copy, its row here", its permits not 14
-pub record CheckInNeeds (j f1 : ℕ) (b : Buffers) : Type 0 where
-  pub entry : Within 999 j
-  pub heads : HeadsPass b
-  pub copy : kindAt b j ≡ Copy
-  pub here : stateAt b (contentAt b j) ≡ Here (rowFacts b (contentAt b j))
-  pub not-14 : rowFacts b (contentAt b j) .permits ≢ 14
-  pub title-key : WipesTitleKey b j f1
-
 -- 5 move out (j, h, f1-f4): "entry full, its row away"; the entry's facts allow it, and h is the stored C_HASH
-pub record MoveOutNeeds (j h : ℕ) (f : Fillers) (b : Buffers) : Type 0 where
-  pub entry : Within 999 j
-  pub heads : HeadsPass b
-  pub full : kindAt b j ≡ Full
-  pub away : stateAt b (contentAt b j) ≡ Away
-  pub may-move : MayMove (factsAt b j)
-  pub hash : h ≡ hashAt b j
-  pub title-key : WipesTitleKey b j (f .f1)
-  pub sti-key : WipesStiKey b j (f .f2)
-
--- 6 move in (c, j, h): "row here, entry free"; the row's facts allow it, and no entry of the card is a copy of c
-pub record MoveInNeeds (c j : ℕ) (b : Buffers) : Type 0 where
-  pub content : Within 999 c
-  pub entry : Within 999 j
-  pub heads : HeadsPass b
-  pub free : kindAt b j ≡ Free
-  pub here : stateAt b c ≡ Here (rowFacts b c)
-  pub may-move : MayMove (rowFacts b c)
-  pub no-copy : (i : ℕ) → Within 999 i → kindAt b i ≡ Copy → contentAt b i ≢ c
-
+-- 6 move in (c, j, h): "row here, entry free"; the row's facts allow it, and no copy of c is on the card
 -- 7 delete (j, f1-f4): a copy, "its row neither tested nor touched"; or a full entry, its row away
-pub data Deletable (j : ℕ) (f : Fillers) (b : Buffers) : Type 0 where
-  a-copy : kindAt b j ≡ Copy → Deletable j f b
-  a-holder : kindAt b j ≡ Full → stateAt b (contentAt b j) ≡ Away → WipesStiKey b j (f .f2) → Deletable j f b
+abbrev pub needsOf : Request → Buffers → List Need
+needsOf (Register c f) b =
+    4 needs Within 999 (c .0)
+    ∷ 6 needs FactsInRange f
+    ∷ 7 needs LedgerHead (b .ledger)
+    ∷ 11 needs (stateAt b (c .0) ≡ Empty)
+    ∷ []
+needsOf (Record c j f h) b =
+    4 needs Within 999 (c .0)
+    ∷ 5 needs Within 999 (j .0)
+    ∷ 6 needs FactsInRange f
+    ∷ (headNeeds b
+    ++ (10 needs (kindAt b (j .0) ≡ Free)
+    ∷ 11 needs (stateAt b (c .0) ≡ Empty)
+    ∷ []))
+needsOf (CheckOut c j) b =
+    4 needs Within 999 (c .0)
+    ∷ 5 needs Within 999 (j .0)
+    ∷ (headNeeds b
+    ++ (10 needs (kindAt b (j .0) ≡ Free)
+    ∷ 11 needs (stateAt b (c .0) ≡ Here (rowFacts b (c .0)))
+    ∷ 12 needs (rowFacts b (c .0) .permits ≢ 0)
+    ∷ []))
+needsOf (CheckIn j f1) b =
+    5 needs Within 999 (j .0)
+    ∷ (headNeeds b
+    ++ (10 needs (kindAt b (j .0) ≡ Copy)
+    ∷ 11 needs (stateAt b (contentAt b (j .0)) ≡ Here (rowFacts b (contentAt b (j .0))))
+    ∷ 15 needs (rowFacts b (contentAt b (j .0)) .permits ≢ 14)
+    ∷ 16 needs WipesTitleKey b (j .0) f1
+    ∷ []))
+needsOf (MoveOut j h f) b =
+    5 needs Within 999 (j .0)
+    ∷ (headNeeds b
+    ++ (10 needs (kindAt b (j .0) ≡ Full)
+    ∷ 11 needs (stateAt b (contentAt b (j .0)) ≡ Away)
+    ∷ 12 needs MayMove (factsAt b (j .0))
+    ∷ 13 needs (h ≡ hashAt b (j .0))
+    ∷ 16 needs (WipesTitleKey b (j .0) (f .f1) × WipesStiKey b (j .0) (f .f2))
+    ∷ []))
+needsOf (MoveIn c j h) b =
+    4 needs Within 999 (c .0)
+    ∷ 5 needs Within 999 (j .0)
+    ∷ (headNeeds b
+    ++ (10 needs (kindAt b (j .0) ≡ Free)
+    ∷ 11 needs (stateAt b (c .0) ≡ Here (rowFacts b (c .0)))
+    ∷ 12 needs MayMove (rowFacts b (c .0))
+    ∷ 14 needs NoCopy b (c .0)
+    ∷ []))
+needsOf (Delete j f) b =
+    5 needs Within 999 (j .0)
+    ∷ (headNeeds b
+    ++ (10 needs ((kindAt b (j .0) ≡ Copy) ⊎ (kindAt b (j .0) ≡ Full))
+    ∷ 11 needs (kindAt b (j .0) ≡ Full → stateAt b (contentAt b (j .0)) ≡ Away)
+    ∷ 16 needs (WipesTitleKey b (j .0) (f .f1) × (kindAt b (j .0) ≡ Full → WipesStiKey b (j .0) (f .f2)))
+    ∷ []))
 
-pub record DeleteNeeds (j : ℕ) (f : Fillers) (b : Buffers) : Type 0 where
-  pub entry : Within 999 j
-  pub heads : HeadsPass b
-  pub deletable : Deletable j f b
-  pub title-key : WipesTitleKey b j (f .f1)
-
--- what a call needs of the buffers that it is lent
+-- a call has all that it needs of the buffers that it is lent
 abbrev pub Needs : Request → Buffers → Type 0
-Needs (Register c f) b = RegisterNeeds (c .0) f b
-Needs (Record c j f h) b = RecordNeeds (c .0) (j .0) f b
-Needs (CheckOut c j) b = CheckOutNeeds (c .0) (j .0) b
-Needs (CheckIn j f1) b = CheckInNeeds (j .0) f1 b
-Needs (MoveOut j h f) b = MoveOutNeeds (j .0) h f b
-Needs (MoveIn c j h) b = MoveInNeeds (c .0) (j .0) b
-Needs (Delete j f) b = DeleteNeeds (j .0) f b
+Needs k b = AllMet (needsOf k b)

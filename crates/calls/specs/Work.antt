@@ -1,5 +1,6 @@
 -- Work is done: each call is done exactly where its needs are met, and then its row and its entry are what the paper says, and
--- all else is as it was. A counter that refuses work, or that answers and does nothing, does not meet these.
+-- all else is as it was; where a need is not met, the first such gives the answer. A counter that refuses work, or that answers and
+-- does nothing, does not meet these.
 use Prim.Native.Nat.{ℕ, _<_, _^_}
 use mathlib.Core.Path.{_≡_}
 use mathlib.Core.Logic.{_≢_}
@@ -20,7 +21,7 @@ use Rattle.requests.specs.declared.request.Request.the-variants.{Register, Reco
 use Rattle.calls.specs.Count.{oneLess, oneMore}
 use Rattle.calls.specs.Buffers.{Buffers, lent, rowAt, titleAt, ruleAt, stateAt, rowFacts, kindAt, contentAt, factsAt, titleKey, stiKey, hashAt}
 use Rattle.calls.specs.Perform.{perform, AreBytes}
-use Rattle.calls.specs.Needs.{Needs}
+use Rattle.calls.specs.Needs.{FirstUnmet, needsOf, Needs}
 use Rattle.calls.specs.Untouched.{Untouched}
 
 -- THE ROW AND THE ENTRY of a done call
@@ -140,6 +141,9 @@ Left (Delete j f) b after = Deleted (j .0) f b after
 pub record Works (k : Request) (b : Buffers) : Type 0 where
   pub done : Needs k b → perform k b .answer ≡ 0
   pub only-done : perform k b .answer ≡ 0 → Needs k b
+  -- "Each number is returned on its condition and on no other."
+  pub refused : (n : ℕ) → FirstUnmet n (needsOf k b) → perform k b .answer ≡ n
+  pub only-refused : (n : ℕ) → n ≢ 0 → perform k b .answer ≡ n → FirstUnmet n (needsOf k b)
   pub leaves : AreBytes b → Needs k b → Left k b (perform k b .buffers)
   pub untouched : Untouched k b (perform k b .buffers)
 

@@ -17,7 +17,7 @@ use Rattle.calls.specs.Buffers.{Buffers, kindAt, contentAt, isFull}
 use Rattle.calls.specs.Conditions.{conditions}
 use Rattle.calls.specs.Effect.{effect}
 use Rattle.calls.specs.Perform.{refusal, perform}
-use Rattle.calls.specs.Needs.{Deletable, a-copy, a-holder, Needs}
+use Rattle.calls.proofs.Named.{Deletable, a-copy, a-holder, Named}
 use Rattle.calls.proofs.Passed.{needs-met, OnCard, row-in}
 use Rattle.calls.proofs.Views.{row-inside, entry-inside}
 use Rattle.music_counter.specs.Answer.{Answers}
@@ -34,7 +34,7 @@ module _ (k : Request) (b : Buffers) {w : ℕ} (e : w ≡ refusal k b) where
   done {after} zero same = simp (sym e ∙ zero, same)
 
   -- and its needs are met
-  pub accepted : w ≡ 0 → Needs k b
+  pub accepted : w ≡ 0 → Named k b
   unfolding perform
   accepted zero = needs-met k b (sym e ∙ zero)
 
@@ -48,7 +48,7 @@ module _ (b : Buffers) (j : ℕ) (on : OnCard b j) where
   rules-room = entry-inside 32 (b .rules) (on .rules-long) j (on .entry)
 
 -- the row of a full entry that is deleted
-pub deleted-row : (b : Buffers) (j : EntryNumber) (f : Fillers) → Needs (Delete j f) b → isFull (kindAt b (j .0)) ≡ true → 24 * contentAt b (j .0) + 24 ≤ length (b .ledger)
+pub deleted-row : (b : Buffers) (j : EntryNumber) (f : Fillers) → Named (Delete j f) b → isFull (kindAt b (j .0)) ≡ true → 24 * contentAt b (j .0) + 24 ≤ length (b .ledger)
 deleted-row b j f n full = by (n .deletable)
   where
     by : Deletable (j .0) f b → 24 * contentAt b (j .0) + 24 ≤ length (b .ledger)

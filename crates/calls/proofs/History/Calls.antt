@@ -17,15 +17,14 @@ use Rattle.formats.specs.declared.entry.EntryKind.the-variants.{Copy, Full}
 use Rattle.formats.specs.declared.row.RowState.{RowState}
 use Rattle.formats.specs.declared.row.RowState.the-variants.{Here}
 use Rattle.formats.proofs.facts.Laws.{facts-same, permitting}
-use Rattle.formats.proofs.head.Laws.{ledger-head}
 use Rattle.calls.specs.Count.{oneLess}
 use Rattle.calls.specs.Buffers.{Buffers, titleAt, ruleAt, stateAt, kindAt, contentAt, factsAt, isFull, Within}
 use Rattle.calls.specs.Effect.{afterMove}
 use Rattle.calls.specs.Perform.{perform, AreBytes}
-use Rattle.calls.specs.Needs.{a-copy, a-holder, Needs}
 use Rattle.calls.specs.Untouched.{rowWritten, titleWritten}
 use Rattle.calls.specs.Work.{Recounted, Left}
 use Rattle.calls.specs.History.{Log, aCopy, theHolder, puts, lastAt, Action, granted, checkedOut, checkedIn, moved, copyDeleted, holderDeleted, event}
+use Rattle.calls.proofs.Named.{a-copy, a-holder, Named, unnamed}
 use Rattle.calls.proofs.Passed.{none-counts, OnCard, on-card}
 use Rattle.calls.proofs.Views.{placeBy, placeOf, view, row-else, place-else, copies-seen}
 use Rattle.calls.proofs.Untouched.{untouched, rule-with-title}
@@ -58,8 +57,8 @@ module _ (log : Log) (b : Buffers) (inv : Invariant 999 log (view b)) (are-bytes
     abbrev after : Buffers
     after = perform k b .buffers
 
-    left : Needs k b → Left k b after
-    left = work-is-done k b .leaves are-bytes
+    left : Named k b → Left k b after
+    left n = work-is-done k b .leaves are-bytes (unnamed k b n)
 
     rows-else : LedgerHead (b .ledger) → (c : ℕ) → ((d : ℕ) → d ≢ c → rowWritten k b ≢ some d) → (d : ℕ) → d ≢ c → stateAt after d ≡ stateAt b d
     rows-else head c other d ne = row-else (untouched k b .rows) head d (other d ne)
@@ -95,7 +94,7 @@ module _ (log : Log) (b : Buffers) (inv : Invariant 999 log (view b)) (are-bytes
   placed-full j in-table e = subst (λ k. Agree (placeBy k (contentAt b j) (factsAt b j)) (lastAt j log)) e (inv .agree j in-table)
 
   -- EACH DONE CALL IS A CHANGE
-  pub change : (k : Request) → Needs k b → Change 999 k log (view b) (view (perform k b .buffers))
+  pub change : (k : Request) → Named k b → Change 999 k log (view b) (view (perform k b .buffers))
   change (Register c f) n =
       let k = Register c f in
       let l = left k n in
@@ -106,7 +105,7 @@ module _ (log : Log) (b : Buffers) (inv : Invariant 999 log (view b)) (are-bytes
         action = granted f;
         event-is = refl;
         step = step-at step-register (n .empty) refl (l .row .reads) (same 0);
-        rows-else = rows-else k (ledger-head (b .ledger) (n .ledger)) (c .0) (λ d ne. other-than ne);
+        rows-else = rows-else k (n .ledger) (c .0) (λ d ne. other-than ne);
         places-else = λ i m ne. same i;
         touched = inr (same 0);
         agree-here = λ m. rw (same 0) (inv .agree 0 m);
