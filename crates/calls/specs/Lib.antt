@@ -4,6 +4,7 @@ pub mod Refusal
 pub mod Conditions
 pub mod Effect
 pub mod Perform
+pub mod Fresh
 pub mod History
 pub mod Requests
 pub mod Examples

@@ -185,12 +185,15 @@ module _ (rows application : ℕ) where
       ledger-passes (record { low = omega arith; high = omega arith; size = omega (arith, fresh-ledger-length) })
 
   -- its rows are zeros
-  pub fresh-row : (c : ℕ) → 1 ≤ c → c ≤ rows → part (freshLedger rows application) (24 * c) 24 ≡ replicate 24 0
+  pub fresh-zeros : (a n : ℕ) → 4 ≤ a → a + n ≤ 24 * (rows + 1) → part (freshLedger rows application) a n ≡ replicate n 0
   unfolding freshLedger
-  fresh-row c low high =
+  fresh-zeros a n low high =
       let e : length (bytesOf 2 application ++ bytesOf 2 rows) ≡ 4 = simp (length-append, length-bytesOf) in
-      ap (λ (l : List ℕ). part l (24 * c) 24) (sym (append-assoc (bytesOf 2 application) (bytesOf 2 rows) (replicate (20 + 24 * rows) 0)))
-      ∙ zeros-part (bytesOf 2 application ++ bytesOf 2 rows) (20 + 24 * rows) (24 * c) 24 (omega arith) (omega arith)
+      ap (λ (l : List ℕ). part l a n) (sym (append-assoc (bytesOf 2 application) (bytesOf 2 rows) (replicate (20 + 24 * rows) 0)))
+      ∙ zeros-part (bytesOf 2 application ++ bytesOf 2 rows) (20 + 24 * rows) a n (omega arith) (omega arith)
+
+  pub fresh-row : (c : ℕ) → 1 ≤ c → c ≤ rows → part (freshLedger rows application) (24 * c) 24 ≡ replicate 24 0
+  fresh-row c low high = fresh-zeros (24 * c) 24 (omega arith) (omega arith)
 
 -- a fresh card table: its head, version and application number, and zeros behind them
 record FreshTable (identifier version size application width mark : ℕ) (t : List ℕ) : Type 0 where
