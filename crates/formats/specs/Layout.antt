@@ -1,0 +1,83 @@
+-- The layouts once more, in plain bytes and numbers. The definitions that effects and conditions are written with are stated here
+-- to have them, so that a slip in a definition does not pass because the code has the same slip.
+use Prim.Native.Nat.{ℕ, _+_, _*_, _/_, _%_, _≤_, _<_}
+use mathlib.Core.Path.{_≡_}
+use mathlib.Core.Logic.{_↔_}
+use mathlib.Core.List.{List}
+use mathlib.Core.Bool.{true, false}
+use lib.ListN.{length, getD, replicate}
+use Rattle.formats.specs.Part.{part}
+use Rattle.formats.specs.Field.{bytesOf}
+use Rattle.formats.specs.Half.{flagOf, wiped}
+use Rattle.formats.specs.Title.{titleHalf}
+use Rattle.formats.specs.Rule.{ruleHalf, wipedRule}
+use Rattle.formats.specs.Head.{LedgerHead, TitlesHead, RulesHead, ledgerPasses, titlesPass, rulesPass}
+use Rattle.formats.specs.declared.facts.Facts.{Facts}
+use Rattle.formats.specs.declared.facts.Fillers.{Fillers}
+
+-- WIPED HALVES
+
+-- "A wiped title half has bytes 0-7 set to f1 and its flag 0. .. A wipe changes nothing else.": w is t, wiped
+pub record WipedTitle (t : List ℕ) (f1 : ℕ) (w : List ℕ) : Type 0 where
+  pub size : length w ≡ 16
+  pub bytes-0-7 : part w 0 8 ≡ bytesOf 8 f1
+  pub byte-8 : getD w 8 0 ≡ getD t 8 0 % 128
+  pub flag : flagOf w ≡ false
+  pub bytes-9-15 : part w 9 7 ≡ part t 9 7
+
+-- "A wiped rule half has bytes 0-7 set to f2, 16-31 to f3 and f4, flag 0. A wipe changes nothing else.": w is r, wiped
+pub record WipedRule (r : List ℕ) (f : Fillers) (w : List ℕ) : Type 0 where
+  pub size : length w ≡ 32
+  pub bytes-0-7 : part w 0 8 ≡ bytesOf 8 (f .f2)
+  pub byte-8 : getD w 8 0 ≡ getD r 8 0 % 128
+  pub flag : flagOf w ≡ false
+  pub bytes-9-15 : part w 9 7 ≡ part r 9 7
+  pub bytes-16-23 : part w 16 8 ≡ bytesOf 8 (f .f3)
+  pub bytes-24-31 : part w 24 8 ≡ bytesOf 8 (f .f4)
+
+-- WRITTEN HALVES
+
+-- "A written half gets its fields, flag 1, ID c, all reserved bits 0.": bytes 1 to 15 of either half
+pub record WrittenHalf (key id : ℕ) (h : List ℕ) : Type 0 where
+  pub bytes-1-7 : part h 1 7 ≡ bytesOf 7 key
+  pub byte-8 : getD h 8 0 ≡ 128
+  pub bytes-9-13 : part h 9 5 ≡ replicate 5 0
+  pub byte-14 : getD h 14 0 ≡ id / 256
+  pub byte-15 : getD h 15 0 ≡ id % 256
+
+-- "byte 0 has the copy control information, CCI, in its low two bits ..; 1-7 the title key"
+pub record WrittenTitle (cci key id : ℕ) (t : List ℕ) : Type 0 where
+  pub size : length t ≡ 16
+  pub byte-0 : getD t 0 0 ≡ cci
+  pub half : WrittenHalf key id t
+
+-- "byte 0 reserved; 1-7 the track information (STI) key; .. byte 16 top bit the trigger; byte 17 high half the move rights, low half
+-- the permits; 18-25 C_HASH; the rest reserved"
+pub record WrittenRule (f : Facts) (hash id : ℕ) (r : List ℕ) : Type 0 where
+  pub size : length r ≡ 32
+  pub byte-0 : getD r 0 0 ≡ 0
+  pub half : WrittenHalf (f .«sti_key») id r
+  pub byte-16 : getD r 16 0 ≡ 128 * f .trigger
+  pub byte-17 : getD r 17 0 ≡ 16 * f .rights + f .permits
+  pub bytes-18-25 : part r 18 8 ≡ bytesOf 8 hash
+  pub bytes-26-31 : part r 26 6 ≡ replicate 6 0
+
+-- THE STATEMENTS
+
+-- what is wiped and written, for all halves of the right length and all numbers that their fields have room for
+pub record Halves : Type 0 where
+  pub wiped-title : (t : List ℕ) (f1 : ℕ) → length t ≡ 16 → WipedTitle t f1 (wiped t f1)
+  pub wiped-rule : (r : List ℕ) (f : Fillers) → length r ≡ 32 → WipedRule r f (wipedRule r f)
+  pub written-title : (cci key id : ℕ) → cci < 4 → id < 1024 → WrittenTitle cci key id (titleHalf cci key id)
+  pub written-rule : (f : Facts) (hash id : ℕ) → f .trigger ≤ 1 → f .rights ≤ 15 → f .permits ≤ 15 → id < 1024
+      → WrittenRule f hash id (ruleHalf f hash id)
+
+-- a head passes exactly where it is the one that the paper describes
+pub record Heads : Type 0 where
+  pub ledger : (l : List ℕ) → (ledgerPasses l ≡ true) ↔ LedgerHead l
+  pub titles : (t : List ℕ) → (titlesPass t ≡ true) ↔ TitlesHead t
+  pub rules : (r : List ℕ) → (rulesPass r ≡ true) ↔ RulesHead r
+
+pub record Layout : Type 0 where
+  pub halves : Halves
+  pub heads : Heads
