@@ -3,9 +3,11 @@
 use Prim.Native.Nat.{ℕ, _+_, _*_, _/_, _%_, _≤_, _<_}
 use mathlib.Core.Path.{_≡_, refl, sym, ap, _∙_}
 use mathlib.Core.List.{List, [], _∷_, _++_}
-use mathlib.Core.Bool.{Bool, true, false}
+use mathlib.Core.Bool.{Bool, true, false, true≢false}
+use mathlib.Core.Logic.{_⊎_, inl, inr}
 use native.Mathlib.Omega.{arith}
 use native.Mathlib.Nat.{mod-eq-of-lt}
+use native.Mathlib.Decide.{ℕ-discrete}
 use lib.ListN.{length, getD, replicate, length-append}
 use borrow.Author.Tests.{lt-leb}
 use Rattle.formats.specs.Part.{part, put}
@@ -13,9 +15,17 @@ use Rattle.formats.specs.Field.{bytesOf}
 use Rattle.formats.specs.Half.{halfBytes, wiped}
 use Rattle.formats.specs.Title.{titleHalf}
 use Rattle.formats.specs.Rule.{ruleHalf, wipedRule}
-use Rattle.formats.specs.Layout.{WipedTitle, WipedRule, WrittenHalf, WrittenTitle, WrittenRule, Halves, Heads, Layout}
+use Rattle.formats.specs.Facts.{inRange}
+use Rattle.formats.specs.Row.{factsOf, stateOf, hereRow, plainRow, withPermits}
+use Rattle.formats.specs.Layout.{WipedTitle, WipedRule, WrittenHalf, WrittenTitle, WrittenRule, WrittenHere, WrittenPlain, ChangedPermits, InRanges, HoldsHere, HoldsNone, States, SameButZeros, Halves, Heads, Rows, Layout}
 use Rattle.formats.specs.declared.facts.Facts.{Facts}
 use Rattle.formats.specs.declared.facts.Fillers.{Fillers}
+use Rattle.formats.specs.declared.row.RowState.{RowState}
+use Rattle.formats.specs.declared.row.RowState.the-variants.{Empty, Here, Away, Gone, NoState}
+use lib.Seq.{getD-take}
+use Rattle.formats.proofs.Tests.{refuted}
+use Rattle.formats.proofs.facts.Laws.{Ranges, ranges, in-range, facts-same}
+use Rattle.formats.proofs.row.Laws.{is-empty, is-here, is-away, is-gone, is-torn, is-none}
 use Rattle.formats.proofs.Cells.{cells, of-cells}
 use Rattle.formats.proofs.title.Laws.{length-titleHalf}
 use Rattle.formats.proofs.rule.Laws.{length-ruleHalf}
@@ -77,5 +87,130 @@ heads =
       rules = λ r. (rules-head, rules-pass);
     }
 
+-- ROWS
+
+written-here : (f : Facts) → f .cci < 256 → f .trigger < 256 → f .rights < 256 → f .permits < 256 → WrittenHere f (hereRow f)
+unfolding hereRow bytesOf
+written-here f c t r p =
+    record {
+      size = refl;
+      byte-0 = refl;
+      byte-1 = mod-eq-of-lt c;
+      byte-2 = mod-eq-of-lt t;
+      byte-3 = mod-eq-of-lt r;
+      byte-4 = mod-eq-of-lt p;
+      bytes-5-7 = refl;
+      bytes-8-14 = refl;
+      byte-15 = refl;
+      bytes-16-22 = refl;
+      byte-23 = refl;
+    }
+
+written-plain : (state : ℕ) → WrittenPlain state (plainRow state)
+unfolding plainRow
+written-plain state = record { size = refl; byte-0 = refl; bytes-1-23 = refl }
+
+changed-permits : (row : List ℕ) (permits : ℕ) → length row ≡ 24 → permits < 256 → ChangedPermits row permits (withPermits row permits)
+unfolding withPermits put
+changed-permits row permits size small =
+    of-cells (λ (x : List ℕ). ChangedPermits x permits (withPermits x permits)) 24 row size
+    (record { size = refl; bytes-0-3 = refl; byte-4 = mod-eq-of-lt small; bytes-5-23 = refl })
+
+-- the ranges of a row's bytes are those of the facts in it
+module _ (row : List ℕ) where
+  in-ranges : inRange (factsOf row) ≡ true → InRanges row
+  unfolding factsOf
+  in-ranges e =
+      let r = ranges e in
+      record {
+        cci = by (ℕ-discrete (getD row 1 0) 0) (ℕ-discrete (getD row 1 0) 2) (r .cci) (r .kind);
+        trigger = r .trigger;
+        rights = r .rights;
+        permits = r .permits;
+      }
+    where
+      by : Dec (getD row 1 0 ≡ 0) → Dec (getD row 1 0 ≡ 2) → getD row 1 0 ≤ 3 → (getD row 1 0 ≡ 1 → ⊥)
+          → (getD row 1 0 ≡ 0) ⊎ ((getD row 1 0 ≡ 2) ⊎ (getD row 1 0 ≡ 3))
+      by (yes a) _ h n = inl a
+      by (no a) (yes b) h n = inr (inl b)
+      by (no a) (no b) h n = inr (inr (omega arith))
+
+  ranges-pass : InRanges row → inRange (factsOf row) ≡ true
+  unfolding factsOf
+  ranges-pass r = in-range (record { cci = most (r .cci); kind = not-one (r .cci); trigger = r .trigger; rights = r .rights; permits = r .permits })
+    where
+      most : (getD row 1 0 ≡ 0) ⊎ ((getD row 1 0 ≡ 2) ⊎ (getD row 1 0 ≡ 3)) → getD row 1 0 ≤ 3
+      most (inl a) = omega arith
+      most (inr (inl b)) = omega arith
+      most (inr (inr c)) = omega arith
+
+      not-one : (getD row 1 0 ≡ 0) ⊎ ((getD row 1 0 ≡ 2) ⊎ (getD row 1 0 ≡ 3)) → getD row 1 0 ≡ 1 → ⊥
+      not-one (inl a) e = omega arith
+      not-one (inr (inl b)) e = omega arith
+      not-one (inr (inr c)) e = omega arith
+
+-- what a state says of the bytes
+abbrev Holds : List ℕ → RowState → Type 0
+Holds row Empty = getD row 0 0 ≡ 0
+Holds row (Here f) = HoldsHere row f
+Holds row Away = getD row 0 0 ≡ 2
+Holds row Gone = getD row 0 0 ≡ 3
+Holds row NoState = HoldsNone row
+
+module _ (row : List ℕ) (size : length row ≡ 24) where
+  holds-here : getD row 0 0 ≡ 1 → InRanges row → HoldsHere row (factsOf row)
+  unfolding factsOf
+  holds-here e r = record { state = e; ranges = r; cci = refl; trigger = refl; rights = refl; permits = refl; title-key = refl; sti-key = refl }
+
+  holds : Holds row (stateOf row)
+  holds = by (ℕ-discrete (getD row 0 0) 0) (ℕ-discrete (getD row 0 0) 1) (ℕ-discrete (getD row 0 0) 2) (ℕ-discrete (getD row 0 0) 3) (inRange (factsOf row)) refl
+    where
+      by : Dec (getD row 0 0 ≡ 0) → Dec (getD row 0 0 ≡ 1) → Dec (getD row 0 0 ≡ 2) → Dec (getD row 0 0 ≡ 3) → (b : Bool) → inRange (factsOf row) ≡ b → Holds row (stateOf row)
+      by (yes e) _ _ _ _ _ = rw (is-empty row size e) e
+      by (no _) (yes e) _ _ true p = rw (is-here row size e p) (holds-here e (in-ranges row p))
+      by (no _) (yes e) _ _ false p = rw (is-torn row e p) (inr (e, λ r. true≢false (sym (ranges-pass row r) ∙ p)))
+      by (no _) (no _) (yes e) _ _ _ = rw (is-away row size e) e
+      by (no _) (no _) (no _) (yes e) _ _ = rw (is-gone row size e) e
+      by (no a) (no b) (no c) (no d) _ _ = let above : 3 < getD row 0 0 = omega arith in rw (is-none row above) (inl above)
+
+  is-here-with : (f : Facts) → HoldsHere row f → stateOf row ≡ Here f
+  unfolding factsOf
+  is-here-with f h =
+      is-here row size (h .state) (ranges-pass row (h .ranges))
+      ∙ ap Here (facts-same (sym (h .cci)) (sym (h .trigger)) (sym (h .rights)) (sym (h .permits)) (sym (h .title-key)) (sym (h .sti-key)))
+
+  is-no-state : HoldsNone row → stateOf row ≡ NoState
+  is-no-state (inl above) = is-none row above
+  is-no-state (inr (e, outside)) = is-torn row e (refuted (λ p. outside (in-ranges row p)))
+
+  states : States row
+  states =
+      record {
+        empty = (λ e. rw e at holds, is-empty row size);
+        here = λ f. (λ e. rw e at holds, is-here-with f);
+        away = (λ e. rw e at holds, is-away row size);
+        gone = (λ e. rw e at holds, is-gone row size);
+        none = (λ e. rw e at holds, is-no-state);
+      }
+
+-- the bytes that a state is read from are the same
+zeros-ignored : (x y : List ℕ) → length x ≡ 24 → length y ≡ 24 → SameButZeros x y → stateOf x ≡ stateOf y
+unfolding stateOf factsOf
+zeros-ignored x y p q s =
+    rw (p, q, byte 0 (omega arith), byte 1 (omega arith), byte 2 (omega arith), byte 3 (omega arith), byte 4 (omega arith), s .bytes-8-14, s .bytes-16-22) refl
+  where
+    byte : (i : ℕ) → i < 5 → getD x i 0 ≡ getD y i 0
+    byte i h = sym (getD-take 5 x i 0 h) ∙ ap (λ (l : List ℕ). getD l i 0) (s .bytes-0-4) ∙ getD-take 5 y i 0 h
+
+rows : Rows
+rows =
+    record {
+      written-here = written-here;
+      written-plain = written-plain;
+      changed-permits = changed-permits;
+      states = states;
+      zeros-ignored = zeros-ignored;
+    }
+
 pub layout : Layout
-layout = record { halves = halves; heads = heads }
+layout = record { halves = halves; heads = heads; rows = rows }

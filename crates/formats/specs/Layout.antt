@@ -2,18 +2,20 @@
 -- to have them, so that a slip in a definition does not pass because the code has the same slip.
 use Prim.Native.Nat.{ℕ, _+_, _*_, _/_, _%_, _≤_, _<_}
 use mathlib.Core.Path.{_≡_}
-use mathlib.Core.Logic.{_↔_}
+use mathlib.Core.Logic.{_⊎_, _↔_}
 use mathlib.Core.List.{List}
 use mathlib.Core.Bool.{true, false}
 use lib.ListN.{length, getD, replicate}
 use Rattle.formats.specs.Part.{part}
-use Rattle.formats.specs.Field.{bytesOf}
+use Rattle.formats.specs.Field.{number, bytesOf}
 use Rattle.formats.specs.Half.{flagOf, wiped}
 use Rattle.formats.specs.Title.{titleHalf}
 use Rattle.formats.specs.Rule.{ruleHalf, wipedRule}
 use Rattle.formats.specs.Head.{LedgerHead, TitlesHead, RulesHead, ledgerPasses, titlesPass, rulesPass}
+use Rattle.formats.specs.Row.{stateOf, hereRow, plainRow, withPermits}
 use Rattle.formats.specs.declared.facts.Facts.{Facts}
 use Rattle.formats.specs.declared.facts.Fillers.{Fillers}
+use Rattle.formats.specs.declared.row.RowState.the-variants.{Empty, Here, Away, Gone, NoState}
 
 -- WIPED HALVES
 
@@ -62,6 +64,71 @@ pub record WrittenRule (f : Facts) (hash id : ℕ) (r : List ℕ) : Type 0 where
   pub bytes-18-25 : part r 18 8 ≡ bytesOf 8 hash
   pub bytes-26-31 : part r 26 6 ≡ replicate 6 0
 
+-- ROWS
+
+-- "byte 0 state ..; 1 CCI; 2 trigger ..; 3 move rights; 4 permits; 5-7 zero; 8-14 title key; 15 zero; 16-22 STI key; 23 zero"
+pub record WrittenHere (f : Facts) (row : List ℕ) : Type 0 where
+  pub size : length row ≡ 24
+  pub byte-0 : getD row 0 0 ≡ 1
+  pub byte-1 : getD row 1 0 ≡ f .cci
+  pub byte-2 : getD row 2 0 ≡ f .trigger
+  pub byte-3 : getD row 3 0 ≡ f .rights
+  pub byte-4 : getD row 4 0 ≡ f .permits
+  pub bytes-5-7 : part row 5 3 ≡ replicate 3 0
+  pub bytes-8-14 : part row 8 7 ≡ bytesOf 7 (f .«title_key»)
+  pub byte-15 : getD row 15 0 ≡ 0
+  pub bytes-16-22 : part row 16 7 ≡ bytesOf 7 (f .«sti_key»)
+  pub byte-23 : getD row 23 0 ≡ 0
+
+-- "Other states have bytes 1-23 written as zero."
+pub record WrittenPlain (state : ℕ) (row : List ℕ) : Type 0 where
+  pub size : length row ≡ 24
+  pub byte-0 : getD row 0 0 ≡ state
+  pub bytes-1-23 : part row 1 23 ≡ replicate 23 0
+
+-- "Check-out and check-in change at most byte 4 of their row"
+pub record ChangedPermits (row : List ℕ) (permits : ℕ) (new : List ℕ) : Type 0 where
+  pub size : length new ≡ 24
+  pub bytes-0-3 : part new 0 4 ≡ part row 0 4
+  pub byte-4 : getD new 4 0 ≡ permits
+  pub bytes-5-23 : part new 5 19 ≡ part row 5 19
+
+-- "CCI is 0, 2 or 3, trigger at most 1, rights and permits at most 15"
+pub record InRanges (row : List ℕ) : Type 0 where
+  pub cci : (getD row 1 0 ≡ 0) ⊎ ((getD row 1 0 ≡ 2) ⊎ (getD row 1 0 ≡ 3))
+  pub trigger : getD row 2 0 ≤ 1
+  pub rights : getD row 3 0 ≤ 15
+  pub permits : getD row 4 0 ≤ 15
+
+-- "A row is here exactly when byte 0 is 1" and those hold; f are the facts in it
+pub record HoldsHere (row : List ℕ) (f : Facts) : Type 0 where
+  pub state : getD row 0 0 ≡ 1
+  pub ranges : InRanges row
+  pub cci : f .cci ≡ getD row 1 0
+  pub trigger : f .trigger ≡ getD row 2 0
+  pub rights : f .rights ≡ getD row 3 0
+  pub permits : f .permits ≡ getD row 4 0
+  pub title-key : f .«title_key» ≡ number (part row 8 7)
+  pub sti-key : f .«sti_key» ≡ number (part row 16 7)
+
+-- "a byte 0 above 3 is no state", nor is a byte 0 of 1 where the row is not here
+abbrev pub HoldsNone : List ℕ → Type 0
+HoldsNone row = (3 < getD row 0 0) ⊎ ((getD row 0 0 ≡ 1) × (InRanges row → ⊥))
+
+-- "byte 0 state (0 empty, 1 here, 2 away on the card, 3 gone)"
+pub record States (row : List ℕ) : Type 0 where
+  pub empty : (stateOf row ≡ Empty) ↔ (getD row 0 0 ≡ 0)
+  pub here : (f : Facts) → (stateOf row ≡ Here f) ↔ HoldsHere row f
+  pub away : (stateOf row ≡ Away) ↔ (getD row 0 0 ≡ 2)
+  pub gone : (stateOf row ≡ Gone) ↔ (getD row 0 0 ≡ 3)
+  pub none : (stateOf row ≡ NoState) ↔ HoldsNone row
+
+-- rows that differ at most in the bytes 5-7, 15 and 23
+pub record SameButZeros (x y : List ℕ) : Type 0 where
+  pub bytes-0-4 : part x 0 5 ≡ part y 0 5
+  pub bytes-8-14 : part x 8 7 ≡ part y 8 7
+  pub bytes-16-22 : part x 16 7 ≡ part y 16 7
+
 -- THE STATEMENTS
 
 -- what is wiped and written, for all halves of the right length and all numbers that their fields have room for
@@ -78,6 +145,17 @@ pub record Heads : Type 0 where
   pub titles : (t : List ℕ) → (titlesPass t ≡ true) ↔ TitlesHead t
   pub rules : (r : List ℕ) → (rulesPass r ≡ true) ↔ RulesHead r
 
+-- what is written in rows, and what state each row of 24 bytes is in
+pub record Rows : Type 0 where
+  pub written-here : (f : Facts) → f .cci < 256 → f .trigger < 256 → f .rights < 256 → f .permits < 256 → WrittenHere f (hereRow f)
+  pub written-plain : (state : ℕ) → WrittenPlain state (plainRow state)
+  pub changed-permits : (row : List ℕ) (permits : ℕ) → length row ≡ 24 → permits < 256
+      → ChangedPermits row permits (withPermits row permits)
+  pub states : (row : List ℕ) → length row ≡ 24 → States row
+  -- "Reading ignores the zero bytes"
+  pub zeros-ignored : (x y : List ℕ) → length x ≡ 24 → length y ≡ 24 → SameButZeros x y → stateOf x ≡ stateOf y
+
 pub record Layout : Type 0 where
   pub halves : Halves
   pub heads : Heads
+  pub rows : Rows
