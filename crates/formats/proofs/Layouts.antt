@@ -3,32 +3,38 @@
 use Prim.Native.Nat.{ℕ, _+_, _*_, _/_, _%_, _≤_, _<_}
 use mathlib.Core.Path.{_≡_, refl, sym, ap, _∙_}
 use mathlib.Core.List.{List, [], _∷_, _++_}
-use mathlib.Core.Bool.{Bool, true, false, true≢false}
+use mathlib.Core.Bool.{Bool, true, false, not, true≢false}
 use mathlib.Core.Logic.{_⊎_, inl, inr}
 use native.Mathlib.Omega.{arith}
 use native.Mathlib.Nat.{mod-eq-of-lt}
-use native.Mathlib.Decide.{ℕ-discrete}
-use lib.ListN.{length, getD, replicate, length-append}
-use borrow.Author.Tests.{lt-leb}
+use native.Mathlib.Decide.{decLe, ℕ-discrete}
+use lib.ListN.{length, getD}
+use lib.Seq.{getD-take}
+use borrow.Author.Tests.{le-leb, lt-leb, ne-eqb}
+use Rattle.formats.specs.Bytes.{Bytes}
 use Rattle.formats.specs.Part.{part, put}
-use Rattle.formats.specs.Field.{bytesOf}
-use Rattle.formats.specs.Half.{halfBytes, wiped}
+use Rattle.formats.specs.Field.{number, bytesOf}
+use Rattle.formats.specs.Half.{idOf, usableOf, halfBytes, wiped}
 use Rattle.formats.specs.Title.{titleHalf}
 use Rattle.formats.specs.Rule.{ruleHalf, wipedRule}
+use Rattle.formats.specs.Entry.{kindOf}
 use Rattle.formats.specs.Facts.{inRange}
 use Rattle.formats.specs.Row.{factsOf, stateOf, hereRow, plainRow, withPermits}
-use Rattle.formats.specs.Layout.{WipedTitle, WipedRule, WrittenHalf, WrittenTitle, WrittenRule, WrittenHere, WrittenPlain, ChangedPermits, InRanges, HoldsHere, HoldsNone, States, SameButZeros, Halves, Heads, Rows, Layout}
+use Rattle.formats.specs.Layout.{WipedTitle, WipedRule, WrittenHalf, WrittenTitle, WrittenRule, WrittenHere, WrittenPlain, ChangedPermits, InRanges, HoldsHere, HoldsNone, States, SameButZeros, contentId, Usable, HoldsFree, HoldsCopy, HoldsFull, HoldsTorn, Kinds, Halves, Heads, Rows, Entries, Layout}
 use Rattle.formats.specs.declared.facts.Facts.{Facts}
 use Rattle.formats.specs.declared.facts.Fillers.{Fillers}
+use Rattle.formats.specs.declared.entry.EntryKind.{EntryKind}
+use Rattle.formats.specs.declared.entry.EntryKind.the-variants.{Free, Copy, Full, Torn}
 use Rattle.formats.specs.declared.row.RowState.{RowState}
 use Rattle.formats.specs.declared.row.RowState.the-variants.{Empty, Here, Away, Gone, NoState}
-use lib.Seq.{getD-take}
 use Rattle.formats.proofs.Tests.{refuted}
 use Rattle.formats.proofs.facts.Laws.{Ranges, ranges, in-range, facts-same}
 use Rattle.formats.proofs.row.Laws.{is-empty, is-here, is-away, is-gone, is-torn, is-none}
-use Rattle.formats.proofs.Cells.{cells, of-cells}
+use Rattle.formats.proofs.Cells.{of-cells, part-cells}
 use Rattle.formats.proofs.title.Laws.{length-titleHalf}
 use Rattle.formats.proofs.rule.Laws.{length-ruleHalf}
+use Rattle.formats.proofs.half.Laws.{usable-id, flagged, not-flagged}
+use Rattle.formats.proofs.entry.Laws.{kind-free, copy-beside, full-beside, of-free, of-copy, of-full}
 use Rattle.formats.proofs.head.Laws.{ledger-head, ledger-passes, titles-head, titles-pass, rules-head, rules-pass}
 
 -- a half of known length is written out, so that all its bytes compute
@@ -212,5 +218,109 @@ rows =
       zeros-ignored = zeros-ignored;
     }
 
+-- ENTRIES
+
+-- a half of bytes: its ID and its use
+module _ (h : List ℕ) (size : 16 ≤ length h) (byte : Bytes h) where
+  id-same : contentId h ≡ idOf h
+  unfolding number
+  id-same = ap (λ (l : List ℕ). number l % 1024) (part-cells 2 14 h size) ∙ omega (arith, byte 15)
+
+  is-usable : usableOf h ≡ true → Usable h
+  is-usable u =
+      record {
+        flag =
+            elim (decLe 128 (getD h 8 0)) [
+              | yes p ↦ p
+              | no p ↦ absurd (true≢false (sym u ∙ not-flagged h (lt-leb 128 (getD h 8 0) (omega arith))))
+            ];
+        named = λ z. omega (arith, usable-id h u, id-same);
+      }
+
+  usable : Usable h → usableOf h ≡ true
+  usable u = flagged h size (le-leb _ _ (u .flag)) ∙ ap not (ne-eqb _ _ (λ z. u .named (id-same ∙ z)))
+
+  not-usable : usableOf h ≡ false → Usable h → ⊥
+  not-usable e u = true≢false (sym (usable u) ∙ e)
+
+  unusable : (Usable h → ⊥) → usableOf h ≡ false
+  unusable n = refuted (λ u. n (is-usable u))
+
+module _ (t r : List ℕ) (t-size : length t ≡ 16) (r-size : length r ≡ 32) (t-byte : Bytes t) (r-byte : Bytes r) where
+  t-long : 16 ≤ length t
+  t-long = omega arith
+
+  r-long : 16 ≤ length r
+  r-long = omega arith
+
+  t-id : contentId t ≡ idOf t
+  t-id = id-same t t-long t-byte
+
+  r-id : contentId r ≡ idOf r
+  r-id = id-same r r-long r-byte
+
+  holds-free : kindOf t r ≡ Free → HoldsFree t r
+  holds-free e =
+      let k = of-free t r e in
+      record { title = not-usable t t-long t-byte (k .title-unusable); rule = not-usable r r-long r-byte (k .rule-unusable) }
+
+  holds-copy : kindOf t r ≡ Copy → HoldsCopy t r
+  holds-copy e =
+      let k = of-copy t r e in
+      let s = k .title-sound in
+      record {
+        title = is-usable t t-long t-byte (s .usable);
+        rule = not-usable r r-long r-byte (k .rule-unusable);
+        most = omega (arith, t-id);
+        cci = s .cci-not-one;
+      }
+
+  holds-full : kindOf t r ≡ Full → HoldsFull t r
+  holds-full e =
+      let k = of-full t r e in
+      let s = k .title-sound in
+      record {
+        title = is-usable t t-long t-byte (s .usable);
+        rule = is-usable r r-long r-byte (k .rule-usable);
+        same = t-id ∙ k .same-id ∙ sym r-id;
+        most = omega (arith, t-id);
+        cci = s .cci-not-one;
+      }
+
+  is-free : HoldsFree t r → kindOf t r ≡ Free
+  is-free h = kind-free t r (unusable t t-long t-byte (h .title)) (unusable r r-long r-byte (h .rule))
+
+  is-copy : HoldsCopy t r → kindOf t r ≡ Copy
+  is-copy h = copy-beside t r (usable t t-long t-byte (h .title)) (omega (arith, t-id)) (h .cci) (unusable r r-long r-byte (h .rule))
+
+  is-full : HoldsFull t r → kindOf t r ≡ Full
+  is-full h =
+      full-beside t r (usable t t-long t-byte (h .title)) (omega (arith, t-id)) (h .cci) (usable r r-long r-byte (h .rule))
+      (sym t-id ∙ h .same ∙ r-id)
+
+  holds-torn : kindOf t r ≡ Torn → HoldsTorn t r
+  holds-torn e =
+      record {
+        not-free = λ h. let k = is-free h in let z : _≡_ {A = ℕ} 0 1 = cc in omega arith;
+        not-copy = λ h. let k = is-copy h in let z : _≡_ {A = ℕ} 0 1 = cc in omega arith;
+        not-full = λ h. let k = is-full h in let z : _≡_ {A = ℕ} 0 1 = cc in omega arith;
+      }
+
+  -- the kind is one of the four
+  is-torn-entry : HoldsTorn t r → kindOf t r ≡ Torn
+  is-torn-entry h = by (kindOf t r) refl
+    where
+      by : (k : EntryKind) → kindOf t r ≡ k → kindOf t r ≡ Torn
+      by Free e = absurd (h .not-free (holds-free e))
+      by Copy e = absurd (h .not-copy (holds-copy e))
+      by Full e = absurd (h .not-full (holds-full e))
+      by Torn e = e
+
+  kinds : Kinds t r
+  kinds = record { free = (holds-free, is-free); copy = (holds-copy, is-copy); full = (holds-full, is-full); torn = (holds-torn, is-torn-entry) }
+
+entries : Entries
+entries = record { kinds = kinds }
+
 pub layout : Layout
-layout = record { halves = halves; heads = heads; rows = rows }
+layout = record { halves = halves; heads = heads; rows = rows; entries = entries }

@@ -6,15 +6,18 @@ use mathlib.Core.Logic.{_⊎_, _↔_}
 use mathlib.Core.List.{List}
 use mathlib.Core.Bool.{true, false}
 use lib.ListN.{length, getD, replicate}
+use Rattle.formats.specs.Bytes.{Bytes}
 use Rattle.formats.specs.Part.{part}
 use Rattle.formats.specs.Field.{number, bytesOf}
 use Rattle.formats.specs.Half.{flagOf, wiped}
 use Rattle.formats.specs.Title.{titleHalf}
 use Rattle.formats.specs.Rule.{ruleHalf, wipedRule}
+use Rattle.formats.specs.Entry.{kindOf}
 use Rattle.formats.specs.Head.{LedgerHead, TitlesHead, RulesHead, ledgerPasses, titlesPass, rulesPass}
 use Rattle.formats.specs.Row.{stateOf, hereRow, plainRow, withPermits}
 use Rattle.formats.specs.declared.facts.Facts.{Facts}
 use Rattle.formats.specs.declared.facts.Fillers.{Fillers}
+use Rattle.formats.specs.declared.entry.EntryKind.the-variants.{Free, Copy, Full, Torn}
 use Rattle.formats.specs.declared.row.RowState.the-variants.{Empty, Here, Away, Gone, NoState}
 
 -- WIPED HALVES
@@ -129,6 +132,49 @@ pub record SameButZeros (x y : List ℕ) : Type 0 where
   pub bytes-8-14 : part x 8 7 ≡ part y 8 7
   pub bytes-16-22 : part x 16 7 ≡ part y 16 7
 
+-- ENTRIES
+
+-- "the content ID is the low ten bits of bytes 14 and 15"
+abbrev pub contentId : List ℕ → ℕ
+contentId h = number (part h 14 2) % 1024
+
+-- "A half is usable if its flag is 1 and its content ID is not 0."
+pub record Usable (h : List ℕ) : Type 0 where
+  pub flag : 128 ≤ getD h 8 0
+  pub named : contentId h ≡ 0 → ⊥
+
+-- "free, no half usable"
+pub record HoldsFree (t r : List ℕ) : Type 0 where
+  pub title : Usable t → ⊥
+  pub rule : Usable r → ⊥
+
+-- "copy, only the title half usable", but not with "an ID above 999" or "CCI 1"
+pub record HoldsCopy (t r : List ℕ) : Type 0 where
+  pub title : Usable t
+  pub rule : Usable r → ⊥
+  pub most : contentId t ≤ 999
+  pub cci : getD t 0 0 % 4 ≡ 1 → ⊥
+
+-- "full, both usable with equal IDs", and again not with those
+pub record HoldsFull (t r : List ℕ) : Type 0 where
+  pub title : Usable t
+  pub rule : Usable r
+  pub same : contentId t ≡ contentId r
+  pub most : contentId t ≤ 999
+  pub cci : getD t 0 0 % 4 ≡ 1 → ⊥
+
+-- "torn, anything else"
+pub record HoldsTorn (t r : List ℕ) : Type 0 where
+  pub not-free : HoldsFree t r → ⊥
+  pub not-copy : HoldsCopy t r → ⊥
+  pub not-full : HoldsFull t r → ⊥
+
+pub record Kinds (t r : List ℕ) : Type 0 where
+  pub free : (kindOf t r ≡ Free) ↔ HoldsFree t r
+  pub copy : (kindOf t r ≡ Copy) ↔ HoldsCopy t r
+  pub full : (kindOf t r ≡ Full) ↔ HoldsFull t r
+  pub torn : (kindOf t r ≡ Torn) ↔ HoldsTorn t r
+
 -- THE STATEMENTS
 
 -- what is wiped and written, for all halves of the right length and all numbers that their fields have room for
@@ -155,7 +201,12 @@ pub record Rows : Type 0 where
   -- "Reading ignores the zero bytes"
   pub zeros-ignored : (x y : List ℕ) → length x ≡ 24 → length y ≡ 24 → SameButZeros x y → stateOf x ≡ stateOf y
 
+-- of what kind each entry is
+pub record Entries : Type 0 where
+  pub kinds : (t r : List ℕ) → length t ≡ 16 → length r ≡ 32 → Bytes t → Bytes r → Kinds t r
+
 pub record Layout : Type 0 where
   pub halves : Halves
   pub heads : Heads
   pub rows : Rows
+  pub entries : Entries
