@@ -1,6 +1,6 @@
 -- The layouts in plain bytes and numbers, as specs/Layout.antt states them.
 -- Assumes nothing.
-use Prim.Native.Nat.{ℕ, _+_, _*_, _/_, _%_, _≤_, _<_}
+use Prim.Native.Nat.{ℕ, _+_, _*_, _%_, _≤_, _<_}
 use mathlib.Core.Path.{_≡_, refl, sym, ap, _∙_}
 use mathlib.Core.List.{List, [], _∷_, _++_}
 use mathlib.Core.Bool.{Bool, true, false, not, true≢false}
@@ -12,7 +12,7 @@ use lib.ListN.{length, getD}
 use lib.Seq.{getD-take}
 use borrow.Author.Tests.{le-leb, lt-leb, ne-eqb}
 use Rattle.formats.specs.Bytes.{Bytes}
-use Rattle.formats.specs.Part.{part, put}
+use Rattle.formats.specs.Part.{put}
 use Rattle.formats.specs.Field.{number, bytesOf}
 use Rattle.formats.specs.Half.{idOf, usableOf, halfBytes, wiped}
 use Rattle.formats.specs.Title.{titleHalf}
@@ -28,7 +28,7 @@ use Rattle.formats.specs.declared.entry.EntryKind.the-variants.{Free, Co
 use Rattle.formats.specs.declared.row.RowState.{RowState}
 use Rattle.formats.specs.declared.row.RowState.the-variants.{Empty, Here, Away, Gone, NoState}
 use Rattle.formats.proofs.Tests.{refuted}
-use Rattle.formats.proofs.facts.Laws.{Ranges, ranges, in-range, facts-same}
+use Rattle.formats.proofs.facts.Laws.{ranges, in-range, facts-same}
 use Rattle.formats.proofs.row.Laws.{is-empty, is-here, is-away, is-gone, is-torn, is-none}
 use Rattle.formats.proofs.Cells.{of-cells, part-cells}
 use Rattle.formats.proofs.title.Laws.{length-titleHalf}
