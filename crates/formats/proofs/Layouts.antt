@@ -1,6 +1,6 @@
 -- The layouts in plain bytes and numbers, as specs/Layout.antt states them.
 -- Assumes nothing.
-use Prim.Native.Nat.{ℕ, _+_, _*_, _%_, _≤_, _<_}
+use Prim.Native.Nat.{ℕ, zero, suc, _+_, _*_, _%_, _≤_, _<_}
 use mathlib.Core.Path.{_≡_, refl, sym, ap, _∙_}
 use mathlib.Core.List.{List, [], _∷_, _++_}
 use mathlib.Core.Bool.{Bool, true, false, not, true≢false}
@@ -8,7 +8,7 @@ use mathlib.Core.Logic.{_⊎_, inl, inr}
 use native.Mathlib.Omega.{arith}
 use native.Mathlib.Nat.{mod-eq-of-lt}
 use native.Mathlib.Decide.{decLe, ℕ-discrete}
-use lib.ListN.{length, getD}
+use lib.ListN.{length, getD, replicate}
 use lib.Seq.{getD-take}
 use borrow.Author.Tests.{le-leb, lt-leb, ne-eqb}
 use Rattle.formats.specs.Bytes.{Bytes}
@@ -17,17 +17,21 @@ use Rattle.formats.specs.Field.{number, bytesOf}
 use Rattle.formats.specs.Half.{idOf, usableOf, halfBytes, wiped}
 use Rattle.formats.specs.Title.{titleHalf}
 use Rattle.formats.specs.Rule.{ruleHalf, wipedRule}
-use Rattle.formats.specs.Entry.{kindOf}
+use Rattle.formats.specs.Entry.{kindOf, entryFacts}
+use Rattle.formats.specs.Head.{freshLedger, tableHead, freshTitles, freshRules}
 use Rattle.formats.specs.Facts.{inRange}
 use Rattle.formats.specs.Row.{factsOf, stateOf, hereRow, plainRow, withPermits}
-use Rattle.formats.specs.Layout.{WipedTitle, WipedRule, WrittenHalf, WrittenTitle, WrittenRule, WrittenHere, WrittenPlain, ChangedPermits, InRanges, HoldsHere, HoldsNone, States, SameButZeros, contentId, Usable, HoldsFree, HoldsCopy, HoldsFull, HoldsTorn, Kinds, Halves, Heads, Rows, Entries, Layout}
+use Rattle.formats.specs.Layout.{Fields, WipedTitle, WipedRule, WrittenHalf, WrittenTitle, WrittenRule, WrittenHere, WrittenPlain, ChangedPermits, InRanges, HoldsHere, HoldsNone, States, SameButZeros, contentId, Usable, HoldsFree, HoldsCopy, HoldsFull, HoldsTorn, Kinds, HoldsFacts, FreshLedger, FreshCard, Halves, Heads, Rows, Entries, Fresh, Layout}
 use Rattle.formats.specs.declared.facts.Facts.{Facts}
 use Rattle.formats.specs.declared.facts.Fillers.{Fillers}
 use Rattle.formats.specs.declared.entry.EntryKind.{EntryKind}
 use Rattle.formats.specs.declared.entry.EntryKind.the-variants.{Free, Copy, Full, Torn}
 use Rattle.formats.specs.declared.row.RowState.{RowState}
 use Rattle.formats.specs.declared.row.RowState.the-variants.{Empty, Here, Away, Gone, NoState}
+use Rattle.formats.proofs.Bytes.{bytes, field}
+use Rattle.formats.proofs.Zeros.{zero-at}
 use Rattle.formats.proofs.Tests.{refuted}
+use Rattle.formats.proofs.field.Laws.{number-snoc, number-bytesOf, length-bytesOf}
 use Rattle.formats.proofs.facts.Laws.{ranges, in-range, facts-same}
 use Rattle.formats.proofs.row.Laws.{is-empty, is-here, is-away, is-gone, is-torn, is-none}
 use Rattle.formats.proofs.Cells.{of-cells, part-cells}
@@ -35,7 +39,18 @@ use Rattle.formats.proofs.title.Laws.{length-titleHalf}
 use Rattle.formats.proofs.rule.Laws.{length-ruleHalf}
 use Rattle.formats.proofs.half.Laws.{usable-id, flagged, not-flagged}
 use Rattle.formats.proofs.entry.Laws.{kind-free, copy-beside, full-beside, of-free, of-copy, of-full}
-use Rattle.formats.proofs.head.Laws.{ledger-head, ledger-passes, titles-head, titles-pass, rules-head, rules-pass}
+use Rattle.formats.proofs.head.Laws.{ledger-head, ledger-passes, titles-head, titles-pass, rules-head, rules-pass, fresh-ledger-length, fresh-titles-length, fresh-rules-length}
+
+fields : Fields
+unfolding number
+fields =
+    record {
+      none = refl;
+      last = λ l b. number-snoc l b ∙ omega arith;
+      written = number-bytesOf;
+      size = length-bytesOf;
+      bytes = λ n x. bytes (field n x);
+    }
 
 -- a half of known length is written out, so that all its bytes compute
 wiped-title : (t : List ℕ) (f1 : ℕ) → length t ≡ 16 → WipedTitle t f1 (wiped t f1)
@@ -319,8 +334,61 @@ module _ (t r : List ℕ) (t-size : length t ≡ 16) (r-size : length r ≡ 32) 
   kinds : Kinds t r
   kinds = record { free = (holds-free, is-free); copy = (holds-copy, is-copy); full = (holds-full, is-full); torn = (holds-torn, is-torn-entry) }
 
+facts : (t r : List ℕ) → HoldsFacts t r (entryFacts t r)
+unfolding entryFacts
+facts t r = record { cci = refl; trigger = refl; rights = refl; permits = refl; title-key = refl; sti-key = refl }
+
 entries : Entries
-entries = record { kinds = kinds }
+entries = record { kinds = kinds; facts = facts }
+
+-- FRESH TABLES
+
+-- behind a front of known length there is nothing but zeros
+zeros-from : (front : List ℕ) (n i : ℕ) → length front ≤ i → getD (front ++ replicate n 0) i 0 ≡ 0
+zeros-from [] n i h = zero-at n i
+zeros-from (b ∷ front) n zero h = absurd (omega arith)
+zeros-from (b ∷ front) n (suc i) h = zeros-from front n i (omega arith)
+
+fresh-ledger : (rows application : ℕ) → FreshLedger rows application (freshLedger rows application)
+unfolding freshLedger bytesOf
+fresh-ledger rows application =
+    record {
+      size = fresh-ledger-length rows application;
+      bytes-0-1 = refl;
+      bytes-2-3 = refl;
+      zeros = λ i h. zeros-from (bytesOf 2 application ++ bytesOf 2 rows) (20 + 24 * rows) i h;
+    }
+
+fresh-titles : FreshCard 0x41 0x10 16000 0 16 0x01 freshTitles
+unfolding freshTitles tableHead bytesOf
+fresh-titles =
+    record {
+      long = fresh-titles-length;
+      bytes-0-3 = refl;
+      bytes-4-7 = refl;
+      bytes-8-9 = refl;
+      bytes-10-11 = refl;
+      byte-12 = refl;
+      byte-13 = refl;
+      zeros = λ i h. zeros-from (tableHead 0x4131 0x10 16000 0 16 0x01) 15986 i h;
+    }
+
+fresh-rules : (application : ℕ) → FreshCard 0x4D 0x11 32000 application 32 0x02 (freshRules application)
+unfolding freshRules tableHead bytesOf
+fresh-rules application =
+    record {
+      long = fresh-rules-length application;
+      bytes-0-3 = refl;
+      bytes-4-7 = refl;
+      bytes-8-9 = refl;
+      bytes-10-11 = refl;
+      byte-12 = refl;
+      byte-13 = refl;
+      zeros = λ i h. zeros-from (tableHead 0x4D31 0x11 32000 application 32 0x02) 31986 i h;
+    }
+
+fresh : Fresh
+fresh = record { ledger = fresh-ledger; titles = fresh-titles; rules = fresh-rules }
 
 pub layout : Layout
-layout = record { halves = halves; heads = heads; rows = rows; entries = entries }
+layout = record { fields = fields; halves = halves; heads = heads; rows = rows; entries = entries; fresh = fresh }

@@ -1,9 +1,9 @@
 -- The layouts once more, in plain bytes and numbers. The definitions that effects and conditions are written with are stated here
 -- to have them, so that a slip in a definition does not pass because the code has the same slip.
-use Prim.Native.Nat.{ℕ, _+_, _*_, _/_, _%_, _≤_, _<_}
+use Prim.Native.Nat.{ℕ, _+_, _*_, _/_, _%_, _^_, _≤_, _<_}
 use mathlib.Core.Path.{_≡_}
 use mathlib.Core.Logic.{_⊎_, _↔_}
-use mathlib.Core.List.{List}
+use mathlib.Core.List.{List, [], _∷_, _++_}
 use mathlib.Core.Bool.{true, false}
 use lib.ListN.{length, getD, replicate}
 use Rattle.formats.specs.Bytes.{Bytes}
@@ -12,13 +12,24 @@ use Rattle.formats.specs.Field.{number, bytesOf}
 use Rattle.formats.specs.Half.{flagOf, wiped}
 use Rattle.formats.specs.Title.{titleHalf}
 use Rattle.formats.specs.Rule.{ruleHalf, wipedRule}
-use Rattle.formats.specs.Entry.{kindOf}
-use Rattle.formats.specs.Head.{LedgerHead, TitlesHead, RulesHead, ledgerPasses, titlesPass, rulesPass}
+use Rattle.formats.specs.Entry.{kindOf, entryFacts}
+use Rattle.formats.specs.Head.{LedgerHead, TitlesHead, RulesHead, ledgerPasses, titlesPass, rulesPass, freshLedger, freshTitles, freshRules}
 use Rattle.formats.specs.Row.{stateOf, hereRow, plainRow, withPermits}
 use Rattle.formats.specs.declared.facts.Facts.{Facts}
 use Rattle.formats.specs.declared.facts.Fillers.{Fillers}
 use Rattle.formats.specs.declared.entry.EntryKind.the-variants.{Free, Copy, Full, Torn}
 use Rattle.formats.specs.declared.row.RowState.the-variants.{Empty, Here, Away, Gone, NoState}
+
+-- FIELDS
+
+-- "Fields of several bytes have the most significant byte first.": a byte more at the end is the least significant, and the bytes
+-- of a number are those that make it, as far as there is room
+pub record Fields : Type 0 where
+  pub none : number [] ≡ 0
+  pub last : (l : List ℕ) (b : ℕ) → number (l ++ (b ∷ [])) ≡ 256 * number l + b
+  pub written : (n x : ℕ) → number (bytesOf n x) ≡ x % 2 ^ (8 * n)
+  pub size : (n x : ℕ) → length (bytesOf n x) ≡ n
+  pub bytes : (n x : ℕ) → Bytes (bytesOf n x)
 
 -- WIPED HALVES
 
@@ -175,6 +186,35 @@ pub record Kinds (t r : List ℕ) : Type 0 where
   pub full : (kindOf t r ≡ Full) ↔ HoldsFull t r
   pub torn : (kindOf t r ≡ Torn) ↔ HoldsTorn t r
 
+-- "The title's .. keys are those in .. the two halves of that entry": each fact where its half has it
+pub record HoldsFacts (t r : List ℕ) (f : Facts) : Type 0 where
+  pub cci : f .cci ≡ getD t 0 0 % 4
+  pub trigger : f .trigger ≡ getD r 16 0 / 128
+  pub rights : f .rights ≡ getD r 17 0 / 16
+  pub permits : f .permits ≡ getD r 17 0 % 16
+  pub title-key : f .«title_key» ≡ number (part t 1 7)
+  pub sti-key : f .«sti_key» ≡ number (part r 1 7)
+
+-- FRESH TABLES
+
+-- "Formatting .. writes a fresh one: heads as above .., everything ignored zero, all rows and entries zero."
+pub record FreshLedger (rows application : ℕ) (l : List ℕ) : Type 0 where
+  pub size : length l ≡ 24 * (rows + 1)
+  pub bytes-0-1 : part l 0 2 ≡ bytesOf 2 application
+  pub bytes-2-3 : part l 2 2 ≡ bytesOf 2 rows
+  pub zeros : (i : ℕ) → 4 ≤ i → getD l i 0 ≡ 0
+
+-- "(versions 10h, 11h)"
+pub record FreshCard (letter version size application width mark : ℕ) (t : List ℕ) : Type 0 where
+  pub long : length t ≡ size
+  pub bytes-0-3 : part t 0 4 ≡ letter ∷ 0x31 ∷ 0 ∷ version ∷ []
+  pub bytes-4-7 : part t 4 4 ≡ bytesOf 4 size
+  pub bytes-8-9 : part t 8 2 ≡ bytesOf 2 application
+  pub bytes-10-11 : part t 10 2 ≡ bytesOf 2 999
+  pub byte-12 : getD t 12 0 ≡ width
+  pub byte-13 : getD t 13 0 ≡ mark
+  pub zeros : (i : ℕ) → 14 ≤ i → getD t i 0 ≡ 0
+
 -- THE STATEMENTS
 
 -- what is wiped and written, for all halves of the right length and all numbers that their fields have room for
@@ -201,12 +241,21 @@ pub record Rows : Type 0 where
   -- "Reading ignores the zero bytes"
   pub zeros-ignored : (x y : List ℕ) → length x ≡ 24 → length y ≡ 24 → SameButZeros x y → stateOf x ≡ stateOf y
 
--- of what kind each entry is
+-- of what kind each entry is, and its facts
 pub record Entries : Type 0 where
   pub kinds : (t r : List ℕ) → length t ≡ 16 → length r ≡ 32 → Bytes t → Bytes r → Kinds t r
+  pub facts : (t r : List ℕ) → HoldsFacts t r (entryFacts t r)
+
+-- what formatting writes; "A1" is 41h 31h, and "M1" 4Dh 31h
+pub record Fresh : Type 0 where
+  pub ledger : (rows application : ℕ) → FreshLedger rows application (freshLedger rows application)
+  pub titles : FreshCard 0x41 0x10 16000 0 16 0x01 freshTitles
+  pub rules : (application : ℕ) → FreshCard 0x4D 0x11 32000 application 32 0x02 (freshRules application)
 
 pub record Layout : Type 0 where
+  pub fields : Fields
   pub halves : Halves
   pub heads : Heads
   pub rows : Rows
   pub entries : Entries
+  pub fresh : Fresh
