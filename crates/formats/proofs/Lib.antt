@@ -6,3 +6,4 @@ pub mod Tests
 pub mod Bits
 pub mod Stores
 pub mod Writes
+pub mod Layouts

@@ -162,22 +162,6 @@ put-next l p q a w =
         ∙ sym (getD-append-add p q (i - length p) 0)
         ∙ ap (λ (z : ℕ). getD (p ++ q) z 0) (sym f)
 
--- a second put at the same place, of the same length
-pub put-again : (l p q : List ℕ) (a : ℕ) → length p ≡ length q → a + length q ≤ length l → put (put l a p) a q ≡ put l a q
-put-again l p q a e w =
-    let x : a + length p ≤ length l = omega arith in
-    let n : length (put l a p) ≡ length l = put-length l p a x in
-    is-put l q a (put (put l a p) a q) w (put-length (put l a p) q a (omega arith) ∙ n)
-    (λ i k. getD-put-before (put l a p) q a (omega arith) i k ∙ getD-put-before l p a x i k)
-    (λ i k. getD-put-in (put l a p) q a (omega arith) i k)
-    (λ i k. getD-put-after (put l a p) q a (omega arith) i k ∙ getD-put-after l p a x i (omega arith))
-
--- what stood there, put back
-pub put-part : (l : List ℕ) (a n : ℕ) → a + n ≤ length l → put l a (part l a n) ≡ l
-put-part l a n w =
-    let m : length (part l a n) ≡ n = part-length a n l w in
-    sym (is-put l (part l a n) a l (omega arith) refl (λ i k. refl) (λ i k. sym (getD-part l a n i (omega arith))) (λ i k. refl))
-
 -- all of a list replaced
 pub put-whole : (l p : List ℕ) → length p ≡ length l → put l 0 p ≡ p
 unfolding put

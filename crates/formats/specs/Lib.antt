@@ -10,3 +10,4 @@ pub mod Rule
 pub mod Entry
 pub mod Head
 pub mod Row
+pub mod Layout

@@ -198,11 +198,6 @@ state-here f r t s =
     let e : factsOf (hereRow f) ≡ f = facts-back f (ranges r) t s in
     is-here (hereRow f) (here-length f) refl (ap inRange e ∙ r) ∙ ap Here e
 
--- a row written empty reads back
-pub state-plain-empty : stateOf (plainRow 0) ≡ Empty
-unfolding plainRow
-state-plain-empty = is-empty (plainRow 0) (plain-length 0) refl
-
 -- a row written away reads back
 pub state-plain-away : stateOf (plainRow 2) ≡ Away
 unfolding plainRow
@@ -269,15 +264,6 @@ state-permits row {f} p e h small =
     let k : factsOf (withPermits row p) ≡ permitting f p = change .1 ∙ ap (λ (x : Facts). permitting x p) (sym (g .facts)) in
     let q : inRange (permitting f p) ≡ true = in-range (record { cci = r .cci; kind = r .kind; trigger = r .trigger; rights = r .rights; permits = small }) in
     is-here (withPermits row p) (permits-length row p e) (change .0 ∙ g .first) (ap inRange k ∙ q) ∙ ap Here k
-
--- a byte at place i does not matter to a row's state
-abbrev pub Ignored : List ℕ → ℕ → ℕ → Type 0
-Ignored row v i = stateOf (put row i (v ∷ [])) ≡ stateOf row
-
--- the zero bytes are not read
-pub zeros-ignored : (row : List ℕ) (v : ℕ) → length row ≡ 24 → Ignored row v 5 × Ignored row v 6 × Ignored row v 7 × Ignored row v 15 × Ignored row v 23
-unfolding put stateOf factsOf
-zeros-ignored row v e = of-cells (λ x. Ignored x v 5 × Ignored x v 6 × Ignored x v 7 × Ignored x v 15 × Ignored x v 23) 24 row e (refl, refl, refl, refl, refl)
 
 -- written rows hold bytes
 pub here-bytes : (f : Facts) → Bytes (hereRow f)

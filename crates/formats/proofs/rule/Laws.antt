@@ -1,27 +1,20 @@
 -- The laws of rule halves: what a written one reads as, and what a wipe leaves of one.
 -- Assumes nothing.
 use Prim.Native.Nat.{ℕ, _+_, _*_, _%_, _^_, _≤_, _<_}
-use mathlib.Core.Path.{_≡_, refl, _∙_}
+use mathlib.Core.Path.{_≡_, _∙_}
 use mathlib.Core.List.{List, [], _∷_, _++_}
 use native.Mathlib.Omega.{arith}
-use lib.ListN.{length, getD, replicate, length-append}
-use Rattle.formats.specs.Part.{part}
+use lib.ListN.{length, length-append}
 use Rattle.formats.specs.Field.{bytesOf}
 use Rattle.formats.specs.Half.{halfBytes, wiped}
 use Rattle.formats.specs.Rule.{triggerOf, rightsOf, permitsOf, hashOf, ruleHalf, wipedRule}
 use Rattle.formats.specs.declared.facts.Facts.{Facts}
 use Rattle.formats.specs.declared.facts.Fillers.{Fillers}
-use Rattle.formats.proofs.Part.{put-length, part-put-same}
+use Rattle.formats.proofs.Part.{put-length}
 use Rattle.formats.proofs.field.Laws.{length-bytesOf, number-whole}
 use Rattle.formats.specs.Bytes.{Bytes}
 use Rattle.formats.proofs.Bytes.{more, bytes, then, zeros, field, bytes-put}
 use Rattle.formats.proofs.half.Laws.{length-halfBytes, Written, half-written, half-bytes, Wiped, half-wiped, still-wiped, wiped-length, wiped-bytes}
-
--- the reserved bits of a rule half beside those that all halves have
-pub record Reserved (r : List ℕ) : Type 0 where
-  pub byte-0 : getD r 0 0 ≡ 0
-  pub byte-16 : getD r 16 0 % 128 ≡ 0
-  pub bytes-26-31 : part r 26 6 ≡ replicate 6 0
 
 module _ (f : Facts) (hash id : ℕ) where
   -- a written rule half is 32 bytes
@@ -35,11 +28,6 @@ module _ (f : Facts) (hash id : ℕ) where
   rule-written =
       half-written 0 (f .«sti_key») id
       (f .trigger % 2 * 128 ∷ (f .rights % 16 * 16 + f .permits % 16) ∷ (bytesOf 8 hash ++ (0 ∷ 0 ∷ 0 ∷ 0 ∷ 0 ∷ 0 ∷ [])))
-
-  -- its other reserved bits are 0
-  pub rule-reserved : Reserved (ruleHalf f hash id)
-  unfolding ruleHalf halfBytes bytesOf
-  rule-reserved = record { byte-0 = refl; byte-16 = omega arith; bytes-26-31 = refl }
 
   -- the trigger reads back
   pub rule-trigger : f .trigger < 2 → triggerOf (ruleHalf f hash id) ≡ f .trigger
@@ -84,11 +72,6 @@ module _ (r : List ℕ) (f : Fillers) (size : length r ≡ 32) where
   pub rule-wiped : Wiped r (f .f2) (wipedRule r f)
   unfolding wipedRule
   rule-wiped = still-wiped (last f) room (half-wiped r (f .f2))
-
-  -- its last 16 bytes are f3 and f4
-  pub wipedRule-fillers : part (wipedRule r f) 16 16 ≡ bytesOf 8 (f .f3) ++ bytesOf 8 (f .f4)
-  unfolding wipedRule
-  wipedRule-fillers = part-put-same (wiped r (f .f2)) (last f) 16 room 16 (simp (length-append, length-bytesOf))
 
 -- a wiped rule half holds bytes
 pub wipedRule-bytes : (r : List ℕ) (f : Fillers) → Bytes r → Bytes (wipedRule r f)

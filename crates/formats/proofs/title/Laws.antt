@@ -4,7 +4,7 @@ use Prim.Native.Nat.{ℕ, _%_, _<_}
 use mathlib.Core.Path.{_≡_}
 use mathlib.Core.List.{[]}
 use native.Mathlib.Omega.{arith}
-use lib.ListN.{length, getD}
+use lib.ListN.{length}
 use Rattle.formats.specs.Field.{bytesOf}
 use Rattle.formats.specs.Half.{halfBytes}
 use Rattle.formats.specs.Title.{cciOf, titleHalf}
@@ -22,11 +22,6 @@ module _ (cci key id : ℕ) where
   pub title-written : Written (titleHalf cci key id) key id
   unfolding titleHalf halfBytes bytesOf
   title-written = half-written (cci % 4) key id []
-
-  -- its first byte holds nothing but the CCI
-  pub title-first : getD (titleHalf cci key id) 0 0 < 4
-  unfolding titleHalf halfBytes
-  title-first = omega arith
 
   -- the CCI reads back
   pub title-cci : cci < 4 → cciOf (titleHalf cci key id) ≡ cci
