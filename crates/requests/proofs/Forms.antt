@@ -1,7 +1,8 @@
 -- The promises of specs/Forms.
 -- Assumes nothing.
-use Rattle.requests.specs.Forms.{GroupsOfSeven, NumberForm, RequestForm}
+use Rattle.requests.specs.Forms.{GroupsOfSeven, NumberForm, NumberRefused, RequestForm}
 use Rattle.requests.proofs.number.Laws.{groups-bytes, groups-read, only-groups, reading-undoes-writing, above-refused, only-written, read-below}
+use Rattle.requests.proofs.number.Refused.{ends-inside, only-ends-inside, not-shortest, too-large, only-these, read-else}
 use Rattle.requests.proofs.request.Laws.{reading-undoes-writing-request, request-form, read-request-stays, refused-request-stays}
 
 pub groups-of-seven : GroupsOfSeven
@@ -13,6 +14,17 @@ number-form =
       reading-undoes-writing = reading-undoes-writing;
       above-refused = above-refused;
       only-written = λ s v k bytes h. (only-written s bytes h, read-below s bytes h);
+    }
+
+pub number-refused : NumberRefused
+number-refused =
+    record {
+      ends-inside = ends-inside;
+      only-ends-inside = only-ends-inside;
+      not-shortest = not-shortest;
+      too-large = too-large;
+      only-these = only-these;
+      read-else = read-else;
     }
 
 pub one-written-form : RequestForm

@@ -1,6 +1,7 @@
 -- What is promised of the written forms of numbers and requests.
 use Prim.Native.Nat.{ℕ, _^_, _≤_, _<_}
 use mathlib.Core.Path.{_≡_}
+use mathlib.Core.Logic.{_⊎_}
 use mathlib.Core.List.{List, _++_}
 use mathlib.Core.Bool.{true}
 use lib.ListN.{length, take, getD}
@@ -24,6 +25,44 @@ pub record NumberForm : Type 0 where
   pub reading-undoes-writing : (n : ℕ) (rest : List ℕ) → n < 2 ^ 64 → readNumber (groups n ++ rest) ≡ Number n (length (groups n))
   pub above-refused : (n : ℕ) (rest : List ℕ) → 2 ^ 64 ≤ n → readNumber (groups n ++ rest) ≡ NoNumber 2
   pub only-written : (s : List ℕ) (v k : ℕ) → Bytes s → readNumber s ≡ Number v k → (take k s ≡ groups v) × (v < 2 ^ 64)
+
+-- the first n bytes of s are there and have the top bit set, so that another group is to follow each of them
+abbrev pub TopBits : ℕ → List ℕ → Type 0
+TopBits n s = (i : ℕ) → i < n → 128 ≤ getD s i 0
+
+-- "1 request bytes end inside a request": every byte has the top bit set, and there is no tenth
+pub record EndsInside (s : List ℕ) : Type 0 where
+  pub no-tenth : length s < 10
+  pub all-before : TopBits (length s) s
+
+-- "2 a number not in shortest form": its last group is 0 and not the only one
+pub record NotShortest (s : List ℕ) : Type 0 where
+  pub last : ℕ
+  pub not-only : 0 < last
+  pub there : last < length s
+  pub all-before : TopBits last s
+  pub is-zero : getD s last 0 ≡ 0
+
+-- "2 a number .. above 2^64 - 1": "A tenth byte other than 01h is 2, and nothing after it counts"
+pub record TooLarge (s : List ℕ) : Type 0 where
+  pub there : 9 < length s
+  pub all-before : TopBits 9 s
+  pub not-one : getD s 9 0 ≡ 1 → ⊥
+
+-- some number is read at the front of s
+pub record IsRead (s : List ℕ) : Type 0 where
+  pub value : ℕ
+  pub count : ℕ
+  pub is : readNumber s ≡ Number value count
+
+-- a number is refused with 1 and with 2 exactly where the paper says, and is read everywhere else; of any list, bytes or not
+pub record NumberRefused : Type 0 where
+  pub ends-inside : (s : List ℕ) → EndsInside s → readNumber s ≡ NoNumber 1
+  pub only-ends-inside : (s : List ℕ) → readNumber s ≡ NoNumber 1 → EndsInside s
+  pub not-shortest : (s : List ℕ) → NotShortest s → readNumber s ≡ NoNumber 2
+  pub too-large : (s : List ℕ) → TooLarge s → readNumber s ≡ NoNumber 2
+  pub only-these : (s : List ℕ) → readNumber s ≡ NoNumber 2 → NotShortest s ⊎ TooLarge s
+  pub read-else : (s : List ℕ) → (EndsInside s → ⊥) → (NotShortest s → ⊥) → (TooLarge s → ⊥) → IsRead s
 
 -- every value is a 64-bit number
 abbrev pub Below : List ℕ → Type 0
