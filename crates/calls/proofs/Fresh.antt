@@ -1,13 +1,12 @@
 -- A freshly formatted ledger and card: heads that pass, rows that are empty, entries that are free, and bytes all over.
 -- Assumes nothing.
 use Prim.Native.Nat.{ℕ, _≤_, _<_, _^_}
-use mathlib.Core.Path.{_≡_, refl, sym, ap, ap₂, _∙_}
+use mathlib.Core.Path.{_≡_, sym, ap, ap₂, _∙_}
 use mathlib.Core.Bool.{Bool, cond}
 use native.Mathlib.Omega.{arith}
 use lib.Dec.{leb}
 use borrow.Author.Tests.{leb-true}
-use Rattle.formats.specs.Field.{bytesOf}
-use Rattle.formats.specs.Head.{rowsOf, freshLedger, tableHead, freshTitles, freshRules}
+use Rattle.formats.specs.Head.{rowsOf, freshLedger}
 use Rattle.formats.specs.Entry.{kindOf}
 use Rattle.formats.specs.Row.{stateOf}
 use Rattle.formats.specs.declared.entry.EntryKind.the-variants.{Free}
@@ -15,10 +14,10 @@ use Rattle.formats.specs.declared.row.RowState.the-variants.{Empty, NoState}
 use Rattle.formats.proofs.Tests.{split, refuted}
 use Rattle.formats.proofs.entry.Laws.{kind-zeros}
 use Rattle.formats.proofs.row.Laws.{state-zeros}
-use Rattle.formats.proofs.head.Laws.{ledger-head, titles-head, rules-head, fresh-ledger-length, fresh-ledger-application, fresh-rows, fresh-ledger-passes, fresh-zeros, fresh-row, fresh-titles-pass, fresh-title, fresh-rules-application, fresh-rules-pass, fresh-rule, fresh-ledger-bytes, fresh-titles-bytes, fresh-rules-bytes}
+use Rattle.formats.proofs.head.Laws.{ledger-head, titles-head, rules-head, fresh-ledger-application, fresh-rows, fresh-ledger-passes, fresh-row, fresh-titles-pass, fresh-title, fresh-rules-application, fresh-rules-pass, fresh-rule, fresh-ledger-bytes, fresh-titles-bytes, fresh-rules-bytes}
 use Rattle.calls.specs.Buffers.{rowAt, stateIn, stateAt, kindAt, fresh, Within}
 use Rattle.calls.specs.Perform.{AreBytes}
-use Rattle.calls.specs.Fresh.{RowsByNumber, LedgerIsFresh, CardIsFresh, FreshIsReady}
+use Rattle.calls.specs.Fresh.{RowsByNumber, FreshIsReady}
 use Rattle.calls.proofs.Named.{HeadsPass}
 use Rattle.calls.proofs.Views.{state-of-row}
 
@@ -59,37 +58,11 @@ rows-by-number =
           (refuted (λ e. let (p, q) = split (leb 1 c) (leb c (rowsOf ledger)) e in none (record { from = leb-true _ _ p; to = leb-true _ _ q })));
     }
 
--- WHAT FORMATTING WRITES
-
-ledger-is-fresh : (rows application : ℕ) → rows ≤ 999 → application < 2 ^ 16 → LedgerIsFresh rows application (freshLedger rows application)
-ledger-is-fresh rows application high small =
-    record {
-      long = fresh-ledger-length rows application;
-      application-is = fresh-ledger-application rows application small;
-      rows-are = fresh-rows rows application (omega arith);
-      ignored = fresh-zeros rows application 4 20 (omega arith) (omega arith);
-      rows-zero = λ c is. fresh-row rows application c (is .from) (is .to);
-    }
-
-card-is-fresh : (application : ℕ) → application < 2 ^ 16 → CardIsFresh application freshTitles (freshRules application)
-unfolding freshTitles freshRules tableHead bytesOf
-card-is-fresh application small =
-    record {
-      title-version = refl;
-      rule-version = refl;
-      application-is = fresh-rules-application application small;
-      title-ignored = (refl, refl);
-      rule-ignored = (refl, refl);
-      titles-zero = λ j l. fresh-title j (l .from) (l .to);
-      rules-zero = λ j l. fresh-rule application j (l .from) (l .to);
-    }
-
 pub fresh-is-ready : FreshIsReady
 fresh-is-ready rows application in-range small =
     let p = fresh-heads rows application (in-range .from) (in-range .to) small in
     record {
-      ledger-bytes = ledger-is-fresh rows application (in-range .to) small;
-      card-bytes = card-is-fresh application small;
+      rows-are = fresh-rows rows application (omega (arith, in-range .to));
       bytes = fresh-bytes rows application application;
       ledger = p .ledger;
       titles = p .titles;

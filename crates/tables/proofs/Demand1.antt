@@ -8,9 +8,10 @@ use native.Mathlib.Decide.{ℕ-discrete}
 use lib.Dec.{eqb}
 use lib.ListN.{length}
 use borrow.Author.Tests.{eq-eqb, ne-eqb, eqb-true, not-false}
-use Rattle.formats.specs.Answer.{Answer, done, refused}
+use Rattle.formats.specs.Answer.{done, refused}
+use Rattle.formats.specs.Bytes.{Bytes}
 use Rattle.formats.specs.Head.{titlesPass, rulesPass, freshLedger, freshTitles, freshRules}
-use Rattle.formats.proofs.head.Laws.{fresh-ledger-length, fresh-titles-length, fresh-rules-length}
+use Rattle.formats.proofs.head.Laws.{fresh-ledger-length, fresh-titles-length, fresh-rules-length, fresh-ledger-bytes, fresh-titles-bytes, fresh-rules-bytes}
 use Rattle.calls.specs.Buffers.{copies, Within}
 use Rattle.calls.specs.Refusal.{first}
 use Rattle.tables.specs.Format.{ledgerConditions, ledgerFormatting, formattedLedger, cardConditions, cardFormatting, formattedTitles, formattedRules}
@@ -33,6 +34,7 @@ formats-ledger ledger rows application =
       same-length =
           either-way (λ (l : List ℕ). length l ≡ length ledger) d refl
           (λ none. fresh-ledger-length rows application ∙ sym (long (length ledger) (24 * (rows + 1)) (none .1 .0)));
+      stays-bytes = λ bytes. either-way Bytes d bytes (λ none. fresh-ledger-bytes rows application);
     }
 
 formats-card : (titles rules : List ℕ) (application : ℕ) → FormatsCard titles rules application
@@ -45,6 +47,8 @@ formats-card titles rules application =
       same-lengths =
           either-way (λ (p : List ℕ × List ℕ). (length (p .0) ≡ length titles) × (length (p .1) ≡ length rules)) d (refl, refl)
           (λ none. (fresh-titles-length ∙ sym (long (length titles) 16000 (none .0)), fresh-rules-length application ∙ sym (long (length rules) 32000 (none .1 .0))));
+      stay-bytes = λ t r.
+          either-way (λ (p : List ℕ × List ℕ). Bytes (p .0) × Bytes (p .1)) d (t, r) (λ none. (fresh-titles-bytes, fresh-rules-bytes application));
     }
   where
     both-or-none : (x : Bool)

@@ -6,6 +6,7 @@ use mathlib.Core.List.{List, [], _∷_}
 use mathlib.Core.Bool.{true}
 use lib.ListN.{length}
 use Rattle.formats.specs.Answer.{done}
+use Rattle.formats.specs.Bytes.{Bytes}
 use Rattle.formats.specs.Head.{titlesPass, rulesPass, freshLedger, freshTitles, freshRules}
 use Rattle.calls.specs.Buffers.{copies, Within}
 use Rattle.calls.specs.Refusal.{RefusedFirst}
@@ -18,6 +19,7 @@ pub record FormatsLedger (ledger : List ℕ) (rows application : ℕ) : Type 0 w
       ledger (formattedLedger ledger rows application) (freshLedger rows application)
   pub done : Within 999 rows → length ledger ≡ 24 * (rows + 1) → ledgerFormatting ledger rows ≡ 0
   pub same-length : length (formattedLedger ledger rows application) ≡ length ledger
+  pub stays-bytes : Bytes ledger → Bytes (formattedLedger ledger rows application)
 
 -- a card, both tables or none
 pub record FormatsCard (titles rules : List ℕ) (application : ℕ) : Type 0 where
@@ -25,6 +27,7 @@ pub record FormatsCard (titles rules : List ℕ) (application : ℕ) : Type 0 wh
       (titles, rules) (formattedTitles titles rules, formattedRules titles rules application) (freshTitles, freshRules application)
   pub done : length titles ≡ 16000 → length rules ≡ 32000 → cardFormatting titles rules ≡ 0
   pub same-lengths : (length (formattedTitles titles rules) ≡ length titles) × (length (formattedRules titles rules application) ≡ length rules)
+  pub stay-bytes : Bytes titles → Bytes rules → Bytes (formattedTitles titles rules) × Bytes (formattedRules titles rules application)
 
 -- the tally: a refusal has no value
 pub record Tallies (titles rules : List ℕ) (c : ℕ) : Type 0 where
