@@ -11,8 +11,8 @@ use Rattle.requests.specs.declared.request.Argument.the-variants.{Conten
 use Rattle.requests.specs.declared.request.Arguments.{Arguments}
 use Rattle.requests.specs.declared.request.Request.{Request}
 
--- the four bits of an argument
-abbrev pub codeOf : Argument → ℕ
+-- the number of each case of an argument, in four bits; it has no values
+unfoldable pub codeOf : Argument → ℕ
 codeOf Content = 1
 codeOf Entry = 2
 codeOf Cci = 3

@@ -4,7 +4,7 @@ use mathlib.Core.List.{List, [], _∷_, _++_}
 use mathlib.Core.Bool.{_&&_, cond}
 use lib.ListN.{getD, drop}
 use lib.Dec.{leb, eqb}
-use Rattle.formats.specs.Answer.{Answer, done, refused}
+use Rattle.formats.specs.Answer.{Answer, case, done, refused}
 use Rattle.formats.specs.Facts.{factValues, cciPasses, triggerPasses, countPasses, keyPasses}
 use Rattle.requests.specs.Number.{groups, readNumber, writing, writtenTo}
 use Rattle.formats.specs.Refusal.{unless}
@@ -74,6 +74,10 @@ valuesOf (CheckIn j f) = j .0 ∷ f ∷ []
 valuesOf (MoveOut j h f) = j .0 ∷ h ∷ fillerValues f
 valuesOf (MoveIn c j h) = c .0 ∷ j .0 ∷ h ∷ []
 valuesOf (Delete j f) = j .0 ∷ fillerValues f
+
+-- the paper's number and values of each case of a request: its kind and its arguments
+unfoldable pub callAnswer : Request → Answer
+callAnswer q = case (kindOf q) (valuesOf q)
 
 -- the facts, and the fillers, that stand in a list of values from place i on
 abbrev pub factsFrom : List ℕ → ℕ → Facts

@@ -8,8 +8,8 @@ ghost use Rattle.formats.specs.Part.{put};
 ghost use Rattle.formats.specs.Facts.{cciPasses};
 ghost use Rattle.requests.specs.Number.{numberAnswer, writtenAnswer};
 ghost use Rattle.formats.specs.Refusal.{unless};
-ghost use Rattle.requests.specs.Request.{limit, kindOf, schema, factsFrom, fillersFrom, requestOf, written, limitOf, Fault, readArguments, readRequest, requestAnswer, remainderOf, writingRequest, requestWrittenTo};
-ghost use Rattle.requests.specs.Packed.{argumentOf, packed, Holds, argumentsAnswer};
+ghost use Rattle.requests.specs.Request.{limit, kindOf, callAnswer, schema, factsFrom, fillersFrom, requestOf, written, limitOf, Fault, readArguments, readRequest, requestAnswer, remainderOf, writingRequest, requestWrittenTo};
+ghost use Rattle.requests.specs.Packed.{codeOf, argumentOf, packed, Holds, argumentsAnswer};
 use crate::number;
 use crate::number::NumberRead;
 use crate::number::Written;
@@ -103,7 +103,7 @@ fn packed_schema(kind: u64) -> u64
 }
 
 fn argument_of(code: u64) -> Argument
-    ensures { λ r. ⌜ r ≡ argumentOf code ⌝ }
+    ensures { λ r. ⌜ codeOf r ≡ codeOf (argumentOf code) ⌝ }
 {
     match code {
         1 => Argument::Content,
@@ -258,7 +258,7 @@ fn fillers_from(v: [u64; 9], i: usize) -> Fillers
 // The request of a kind from 1 to 7 with these values, of which it takes as many as the kind has arguments. Their limits are
 // not tested here.
 pub fn request_of(kind: u64, v: [u64; 9]) -> Request
-    ensures { λ r. ⌜ r ≡ requestOf kind v ⌝ }
+    ensures { λ r. ⌜ callAnswer r ≡ callAnswer (requestOf kind v) ⌝ }
 {
     match kind {
         1 => Request::Register {

@@ -16,7 +16,7 @@ use lib.Dec.{leb, ltb, eqb}
 use Rattle.formats.specs.Answer.{Answer, done, refused}
 use Rattle.formats.specs.Part.{put}
 use Rattle.formats.specs.Bytes.{Bytes}
-use Rattle.formats.proofs.Bytes.{Listed, none, more, bytes}
+use Rattle.formats.proofs.Bytes.{Listed, none, more, bytes, listed, bytes-put}
 use Rattle.formats.proofs.Tests.{and-false, same-test}
 use Rattle.requests.specs.Number.{groupsIn, groups, withGroup, readGroups, exceeds, readNumber, numberAnswer, writtenAnswer, writing, writtenTo}
 use Rattle.requests.specs.declared.number.NumberRead.{NumberRead}
@@ -393,6 +393,15 @@ unfolding writing writtenTo
 wrote w out h count bytes =
     let fits : ltb (length out) (length w) ≡ false = le-ltb (length out) (length w) h in
     (simp (fits, count), simp fits bytes)
+
+-- bytes written into bytes leave bytes, whether or not there is room for them
+pub bytes-cond : (t : Bool) (a b : List ℕ) → Bytes a → Bytes b → Bytes (cond t a b)
+bytes-cond true a b p q = p
+bytes-cond false a b p q = q
+
+pub writing-keeps-bytes : (w out : List ℕ) → Bytes w → Bytes out → Bytes (writtenTo w out)
+unfolding writtenTo
+writing-keeps-bytes w out p q = bytes-cond (ltb (length out) (length w)) out (put out 0 w) q (bytes-put out 0 q (listed w p))
 
 -- a number below 128 ^ k has at most k groups
 pub groups-length : (k n : ℕ) → n < 128 ^ suc k → length (groups n) ≤ suc k

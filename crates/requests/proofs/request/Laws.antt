@@ -15,7 +15,7 @@ use lib.Seq.{take-add, drop-append-seam, drop-append-le}
 use Rattle.formats.specs.Answer.{Answer}
 use Rattle.requests.specs.Number.{groups, readNumber}
 use Rattle.requests.specs.Forms.{Below}
-use Rattle.requests.specs.Request.{limit, kindLimit, schema, kindOf, valuesOf, requestOf, numbers, written, firstLimit, limitOf, ArgumentsRead, Values, Fault, withValue, readArguments, asRequest, readRequest, requestAnswer}
+use Rattle.requests.specs.Request.{limit, kindLimit, schema, kindOf, valuesOf, callAnswer, requestOf, numbers, written, firstLimit, limitOf, ArgumentsRead, Values, Fault, withValue, readArguments, asRequest, readRequest, requestAnswer}
 use Rattle.requests.specs.declared.number.NumberRead.{NumberRead}
 use Rattle.requests.specs.declared.number.NumberRead.the-variants.{Number, Refused as NoNumber}
 use Rattle.requests.specs.declared.request.Argument.{Argument}
@@ -162,6 +162,11 @@ request-again (Delete j f) = refl
 -- the kind and the values make the request
 same-values : {q p : Request} → kindOf q ≡ kindOf p → valuesOf q ≡ valuesOf p → q ≡ p
 same-values {q} {p} k v = sym (request-again q) ∙ ap₂ requestOf k v ∙ request-again p
+
+-- requests whose numbers and values are the same are the same
+pub same-call : {q p : Request} → callAnswer q ≡ callAnswer p → q ≡ p
+unfolding callAnswer
+same-call e = same-values (ap (λ (a : Answer). a .number) e) (ap (λ (a : Answer). a .values) e)
 
 -- readings whose numbers and values are the same are the same
 pub same-request : {r q : RequestRead} → requestAnswer r ≡ requestAnswer q → r ≡ q

@@ -25,7 +25,7 @@ use Rattle.formats.proofs.Stores.{Storing, store-all, done as store-done}
 
 -- an argument's four bits stand for it
 argument-code : (a : Argument) → argumentOf (codeOf a) ≡ a
-unfolding argumentOf
+unfolding codeOf argumentOf
 argument-code Content = refl
 argument-code Entry = refl
 argument-code Cci = refl
@@ -35,8 +35,13 @@ argument-code Permits = refl
 argument-code Key = refl
 argument-code Any = refl
 
--- they are not 0, and they are four bits
+-- arguments whose numbers are the same are the same
+pub same-argument : {a b : Argument} → codeOf a ≡ codeOf b → a ≡ b
+same-argument {a} {b} e = sym (argument-code a) ∙ ap argumentOf e ∙ argument-code b
+
+-- an argument's number is not 0, and is four bits
 code-range : (a : Argument) → (1 ≤ codeOf a) × (codeOf a < 16)
+unfolding codeOf
 code-range Content = omega arith
 code-range Entry = omega arith
 code-range Cci = omega arith

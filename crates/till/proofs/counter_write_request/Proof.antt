@@ -1,6 +1,7 @@
 -- `till::counter_write_request` meets its contract: the request is written, or nothing changes.
 -- Assumes nothing.
 use borrow.Author.Needs.{needs}
+use Rattle.requests.proofs.request.Laws.{same-call}
 use Rattle.till.proofs.Requests.{below, above, wrote, refused}
 use Rattle.till.proofs.counter_write_request.Statement.{statement}
 use Rattle.till.proofs.counter_write_request.Tie as tie
@@ -31,7 +32,7 @@ returns-3 c =
     let w = c .before .before .before .before .before in
     let o = w .before .before in
     let e = o .before .before in
-    wrote _ _ _ _ (e .before .if1 .left) (e .if2 .left) (o .request-of .ensures) (w .write .ensures .0) (w .write .ensures .1) (c .before .written .given .1)
+    wrote _ _ _ _ (e .before .if1 .left) (e .if2 .left) (same-call (o .request-of .ensures)) (w .write .ensures .0) (w .write .ensures .1) (c .before .written .given .1)
 
 same-length-2 : tie.Need-same-length-2
 same-length-2 c = search needs
@@ -41,7 +42,7 @@ returns-4 c =
     let w = c .before .before .before .before .before in
     let o = w .before .before in
     let e = o .before .before in
-    refused _ _ _ _ (e .before .if1 .left) (e .if2 .left) (o .request-of .ensures) (w .write .ensures .0) (w .write .ensures .1) (c .before .written2 .given .1)
+    refused _ _ _ _ (e .before .if1 .left) (e .if2 .left) (same-call (o .request-of .ensures)) (w .write .ensures .0) (w .write .ensures .1) (c .before .written2 .given .1)
 
 pub counter-write-request-spec : {M : Type 1} → statement M
 counter-write-request-spec =

@@ -4,7 +4,7 @@ use mathlib.Core.Path.{refl, _∙_}
 use native.Mathlib.Omega.{arith}
 use borrow.Author.Needs.{needs}
 use Rattle.requests.specs.Request.{schema}
-use Rattle.requests.proofs.request.Packing.{start, within, schema-size, nine, limit-is, Limiting, limit-met, limit-kept, limit-none}
+use Rattle.requests.proofs.request.Packing.{same-argument, start, within, schema-size, nine, limit-is, Limiting, limit-met, limit-kept, limit-none}
 use Rattle.requests.proofs.request.limit.Statement.{statement}
 use Rattle.requests.proofs.request.limit.Tie as tie
 
@@ -45,7 +45,7 @@ returns : tie.Need-returns Inv-loop μ-loop
 returns c =
     let x = c .before .before .before in
     let numbers = x .before .before .before .before .numbers-of in
-    limit-met (x .before .loop .inv) (x .loop-test .taken) (schema-size _) (c .before .before .argument-of .ensures) (c .before .argument-limit .ensures) (c .if1 .taken) ∙ limit-is (numbers .ensures)
+    limit-met (x .before .loop .inv) (x .loop-test .taken) (schema-size _) (same-argument (c .before .before .argument-of .ensures)) (c .before .argument-limit .ensures) (c .if1 .taken) ∙ limit-is (numbers .ensures)
 
 add-i : tie.Need-add-i Inv-loop μ-loop
 add-i c =
@@ -58,7 +58,7 @@ loop-less c = omega arith
 loop-again : tie.Need-loop-again Inv-loop μ-loop
 loop-again c =
     let x = c .before .before .before in
-    limit-kept (x .before .loop .inv) (x .loop-test .taken) (schema-size _) (c .before .before .argument-of .ensures) (c .before .argument-limit .ensures) (c .if1 .left)
+    limit-kept (x .before .loop .inv) (x .loop-test .taken) (schema-size _) (same-argument (c .before .before .argument-of .ensures)) (c .before .argument-limit .ensures) (c .if1 .left)
 
 returns-2 : tie.Need-returns-2 Inv-loop μ-loop
 returns-2 c = limit-none (c .before .loop .inv) (c .loop-test .left) ∙ limit-is (c .before .before .before .before .numbers-of .ensures)

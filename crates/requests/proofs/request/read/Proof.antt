@@ -12,6 +12,7 @@ use Rattle.requests.specs.declared.request.Request.{Request}
 use Rattle.requests.specs.declared.request.RequestRead.the-variants.{Read, Refused}
 use Rattle.requests.proofs.number.Laws.{read-within, same-number}
 use Rattle.requests.proofs.request.Cases.{kind-refused, kind-limit}
+use Rattle.requests.proofs.request.Laws.{same-call}
 use Rattle.requests.proofs.request.Reading.{KindRead, request-fault, request-read, request-within}
 use Rattle.requests.proofs.request.read.Statement.{statement}
 use Rattle.requests.proofs.request.read.Tie as tie
@@ -90,7 +91,7 @@ returns-4 c =
     let y = e .before .before in
     let x = y .before .before .before .before .before in
     ap requestAnswer
-    (ap (λ (q : Request). Read q (x .found .given .0 .1 .0 + y .read-arguments .result .len)) (c .before .request-of .ensures)
+    (ap (λ (q : Request). Read q (x .found .given .0 .1 .0 + y .read-arguments .result .len)) (same-call (c .before .request-of .ensures))
     ∙ request-read (kind-read y) (e .if2 .left))
 
 pub read-spec : {M : Type 1} → statement M

@@ -11,7 +11,7 @@ use Rattle.requests.specs.declared.number.NumberRead.{NumberRead}
 use Rattle.requests.specs.Request.{schema, Fault}
 use Rattle.requests.specs.Packed.{argumentsAnswer}
 use Rattle.requests.proofs.number.Laws.{read-within}
-use Rattle.requests.proofs.request.Packing.{within, schema-size}
+use Rattle.requests.proofs.request.Packing.{same-argument, within, schema-size}
 use Rattle.requests.proofs.request.Reading.{Taking, begin, found, no-number, past-limit, taken, all-read}
 use Rattle.requests.proofs.request.read_arguments.Statement.{statement}
 use Rattle.requests.proofs.request.read_arguments.Tie as tie
@@ -79,7 +79,7 @@ returns-2 c =
     let turn = read .before .before in
     let l = turn .before .loop in
     c .refused2 .ensures
-    ∙ past-limit (l .inv) (turn .loop-test .taken) (x .before .argument-of .ensures) (found _ (l .used) (l .inv .within) (read .read .ensures) told)
+    ∙ past-limit (l .inv) (turn .loop-test .taken) (same-argument (x .before .argument-of .ensures)) (found _ (l .used) (l .inv .within) (read .read .ensures) told)
     (x .argument-limit .ensures) (c .before .if1 .taken)
 
 mul-values : tie.Need-mul-values Inv-loop μ-loop
@@ -116,7 +116,7 @@ loop-again c =
     let read = x .before .before .before .before .before in
     let turn = read .before .before in
     let l = turn .before .loop in
-    taken (l .inv) (turn .loop-test .taken) (x .before .argument-of .ensures) (found _ (l .used) (l .inv .within) (read .read .ensures) told)
+    taken (l .inv) (turn .loop-test .taken) (same-argument (x .before .argument-of .ensures)) (found _ (l .used) (l .inv .within) (read .read .ensures) told)
     (x .argument-limit .ensures) (schema-size _) (c .if1 .left)
 
 returns-3 : tie.Need-returns-3 Inv-loop μ-loop
