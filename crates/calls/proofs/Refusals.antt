@@ -152,25 +152,6 @@ only-met n [] some e = absurd (some (sym e))
 only-met n ((m when true) ∷ cs) some e = ap (λ (x : Bool). (x && true) || meets n cs) (eq-eqb m n e)
 only-met n ((m when false) ∷ cs) some e = one-holds {a = eqb m n && false} (inr (only-met n cs some e))
 
--- B, and A as well where a test holds
-abbrev Also : Bool → Type 0 → Type 0 → Type 0
-Also true A B = A × B
-Also false A B = B
-
-also : (x : Bool) (A B : Type 0) → A → B → Also x A B
-also true A B p q = (p, q)
-also false A B p q = q
-
--- no condition of number n holds
-abbrev pub Unmet : ℕ → List Condition → Type 0
-Unmet n [] = Unit
-Unmet n ((m when b) ∷ rest) = Also (eqb m n) (b ≡ false) (Unmet n rest)
-
--- where none holds, none of number n does
-pub unmet : (n : ℕ) (cs : List Condition) → NoneHolds cs → Unmet n cs
-unmet n [] h = tt
-unmet n ((m when b) ∷ cs) h = also (eqb m n) (b ≡ false) (Unmet n cs) (h .0) (unmet n cs (h .1))
-
 -- DEMAND 1 of whatever answers the first of its conditions, and leaves what it found unless that is 0
 pub refused-first : {A : Type 0} {numbers : List ℕ} (cs : List Condition) {answer : ℕ} {before after made : A} → numbersOf cs ≡ numbers → refusing cs ≡ true
     → answer ≡ first cs → after ≡ cond (eqb answer 0) made before → RefusedFirst A numbers cs answer before after made

@@ -26,6 +26,7 @@ use Rattle.requests.specs.declared.request.RequestRead.{RequestRead}
 use Rattle.requests.specs.declared.request.RequestRead.the-variants.{Read, Refused}
 use Rattle.requests.proofs.number.Laws.{refusals}
 use Rattle.requests.proofs.request.Laws.{values-size}
+use Rattle.requests.proofs.request.Writing.{writing-request-keeps-bytes}
 use Rattle.requests.proofs.request.Cases.{argument-refused, argument-limit, argument-value, kind-refused, kind-limit, kind-value}
 use Rattle.calls.specs.Refusal.{Condition, _when_, first, numbersOf}
 use Rattle.calls.specs.Conditions.{numbered}
@@ -255,6 +256,7 @@ module _ (q : Request) (out : List ℕ) where
             (λ none.
             let fits = ltb-false (length out) (length (written q)) (none-after (valuesConditions (schema (kindOf q)) (valuesOf q)) (1 when short ∷ []) none .0) in
             put-length out (written q) 0 (omega arith));
+        stays-bytes = writing-request-keeps-bytes q out;
       }
 
 -- DEMAND 1

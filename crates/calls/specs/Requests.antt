@@ -6,6 +6,7 @@ use mathlib.Core.Bool.{Bool, false, _&&_}
 use lib.ListN.{length, getD, drop}
 use lib.Dec.{leb, ltb, eqb}
 use Rattle.formats.specs.Answer.{done}
+use Rattle.formats.specs.Bytes.{Bytes}
 use Rattle.formats.specs.Facts.{cciPasses, triggerPasses, countPasses, keyPasses}
 use Rattle.formats.specs.Part.{put}
 use Rattle.requests.specs.Number.{readNumber, writtenAnswer}
@@ -107,6 +108,7 @@ pub record Writes (q : Request) (out : List ℕ) : Type 0 where
       out (requestWrittenTo q out) (put out 0 (written q))
   pub answers-length : writtenAnswer (writingRequest q out) .number ≡ 0 → writtenAnswer (writingRequest q out) ≡ done (length (written q) ∷ [])
   pub same-length : length (requestWrittenTo q out) ≡ length out
+  pub stays-bytes : Bytes out → Bytes (requestWrittenTo q out)
 
 -- DEMAND 1, of requests
 pub record Demand1Requests : Type 0 where
