@@ -9,7 +9,7 @@ use native.Mathlib.Nat.{mod-eq-of-lt}
 use native.Mathlib.Decide.{decLe, ℕ-discrete}
 use lib.Bits.{bitAnd, and-zero-r, and-block, and-high, and-mask}
 use lib.Dec.{leb, ltb, eqb}
-use lib.ListN.{length, drop, getD, replicate, length-append, List·getD-append, getD-replicate}
+use lib.ListN.{length, drop, getD, replicate, length-append}
 use lib.Seq.{getD-drop}
 use borrow.Author.Tests.{le-leb, lt-leb, lt-ltb, le-ltb, eq-eqb, ne-eqb, eqb-false, not-true}
 use Rattle.formats.specs.Part.{part, put}
@@ -35,34 +35,22 @@ pub length-halfBytes : (first key id : ℕ) → length (halfBytes first key id) 
 unfolding halfBytes
 length-halfBytes first key id = simp (length-append, length-bytesOf)
 
--- what stands in a half that was written with a key and an ID; its reserved bits are 0
+-- what is read of a half that was written with a key and an ID
 pub record Written (h : List ℕ) (key id : ℕ) : Type 0 where
   pub whole : 16 ≤ length h
   pub key-is : keyOf h ≡ key % 2 ^ 56
   pub flag-is : flagOf h ≡ true
   pub id-is : idOf h ≡ id % 1024
-  pub byte-8 : getD h 8 0 ≡ 128
-  pub bytes-9-13 : (i : ℕ) → 9 ≤ i → i ≤ 13 → getD h i 0 ≡ 0
-  pub byte-14 : getD h 14 0 < 4
 
 -- both kinds of half are so
 pub half-written : (first key id : ℕ) (rest : List ℕ) → Written (halfBytes first key id ++ rest) key id
 unfolding halfBytes bytesOf
 half-written first key id rest =
-    let h = halfBytes first key id ++ rest in
     record {
       whole = omega (arith, length-append (halfBytes first key id) rest, length-halfBytes first key id);
       key-is = number-bytesOf 7 key;
       flag-is = refl;
       id-is = omega arith;
-      byte-8 = refl;
-      bytes-9-13 = λ i low high.
-          let e : i ≡ 9 + (i - 9) = omega arith in
-          ap (λ (k : ℕ). getD h k 0) e
-          ∙ sym (getD-drop 9 h (i - 9) 0)
-          ∙ List·getD-append (replicate 5 0) (drop 14 h) 0 (i - 9) (omega arith)
-          ∙ getD-replicate 5 (i - 9) 0 0 (omega arith);
-      byte-14 = omega arith;
     }
 
 module _ {h : List ℕ} {key id : ℕ} (w : Written h key id) where
