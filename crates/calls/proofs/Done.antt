@@ -41,7 +41,7 @@ use Rattle.calls.specs.Work.{RowIs, Recounted, PermitsBecome, FullEntry,
 use Rattle.calls.proofs.Counts.{less-most, more-most}
 use Rattle.calls.proofs.Refusals.{carried-out}
 use Rattle.calls.proofs.Named.{a-copy, a-holder, Named, named}
-use Rattle.calls.proofs.Passed.{to-ranges, all-needs-met, done-where, refused-where, unmet-where, OnCard, on-card, its-row, row-in}
+use Rattle.calls.proofs.Passed.{to-ranges, answered, OnCard, on-card, its-row, row-in}
 use Rattle.calls.proofs.Slots.{slot-same, slots-kept}
 use Rattle.calls.proofs.Views.{IsRow, state-of-row, row-inside, row-length, row-reads, entry-length, entry-same}
 use Rattle.calls.proofs.Untouched.{permits-long, rule-long, wiped-title-long, wiped-rule-long, untouched}
@@ -280,11 +280,8 @@ module _ (b : Buffers) (are-bytes : AreBytes b) where
 pub work-is-done : WorkIsDone
 work-is-done k b =
     record {
-      done = done-where k b;
-      only-done = all-needs-met k b;
-      refused = refused-where k b;
-      only-refused = unmet-where k b;
-      leaves = λ are-bytes n. subst (Left k b) (sym (carried-out k b (done-where k b n))) (leaves b are-bytes k (named k b n));
+      answered = answered k b;
+      leaves = λ are-bytes n. subst (Left k b) (sym (carried-out k b (answered k b .done n))) (leaves b are-bytes k (named k b n));
       untouched = untouched k b;
     }
 

@@ -81,11 +81,11 @@ moves before after e =
       moved-out = λ b j h f are-bytes n are.
           let w = work-is-done (MoveOut j h f) b in
           let l = w .leaves are-bytes n in
-          (w .done n, record { here = l .row .reads; are = l .facts .rights-are ∙ ap oneLess are ∙ e });
+          (w .answered .done n, record { here = l .row .reads; are = l .facts .rights-are ∙ ap oneLess are ∙ e });
       moved-in = λ b c j h are-bytes n are.
           let w = work-is-done (MoveIn c j h) b in
           let l = w .leaves are-bytes n in
-          (w .done n, record { full = l .entry .full; id = l .entry .id; are = l .facts .rights-are ∙ ap oneLess are ∙ e });
+          (w .answered .done n, record { full = l .entry .full; id = l .entry .id; are = l .facts .rights-are ∙ ap oneLess are ∙ e });
     }
 
 example-6 : E6
@@ -151,13 +151,13 @@ checks-in : (before after : ℕ) → oneMore before ≡ after → ChecksIn befor
 checks-in before after e b j f1 are-bytes n are =
     let w = work-is-done (CheckIn j f1) b in
     let l = w .leaves are-bytes n in
-    (w .done n, record { here = l .row .here; are = l .row .facts .permits-are ∙ ap oneMore are ∙ e })
+    (w .answered .done n, record { here = l .row .here; are = l .row .facts .permits-are ∙ ap oneMore are ∙ e })
 
 -- at permits 14 it is refused
 at-14 : (b : Buffers) (j : EntryNumber) (f1 : ℕ) → MetBelow 15 (needsOf (CheckIn j f1) b) → rowFacts b (contentAt b (j .0)) .permits ≡ 14
     → perform (CheckIn j f1) b .answer ≡ 15
 at-14 b j f1 (entry, (ledger, (titles, (rules, (copy, (here, rest)))))) e =
-    work-is-done (CheckIn j f1) b .refused 15 (inr (entry, inr (ledger, inr (titles, inr (rules, inr (copy, inr (here, inl (λ other. other e, refl))))))))
+    work-is-done (CheckIn j f1) b .answered .refused 15 (inr (entry, inr (ledger, inr (titles, inr (rules, inr (copy, inr (here, inl (λ other. other e, refl))))))))
 
 example-9 : E9
 unfolding oneMore

@@ -10,7 +10,7 @@ use lib.ListN.{length}
 use lib.Dec.{eqb}
 use borrow.Author.Tests.{le-leb, leb-true, lt-ltb, ltb-true, eq-eqb, ne-eqb, eqb-true, eqb-false, not-false}
 use Rattle.formats.specs.Facts.{inRange, keyPasses}
-use Rattle.formats.specs.Head.{LedgerHead, TitlesHead, ledgerPasses, ledgerApplication, titlesPass, rulesPass, rulesApplication}
+use Rattle.formats.specs.Head.{LedgerHead, TitlesHead, RulesHead, ledgerPasses, ledgerApplication, titlesPass, rulesPass, rulesApplication}
 use Rattle.formats.specs.declared.facts.Facts.{Facts}
 use Rattle.requests.specs.declared.request.Request.{Request}
 use Rattle.requests.specs.declared.request.Request.the-variants.{Register, Record, CheckOut, CheckIn, MoveOut, MoveIn, Delete}
@@ -22,11 +22,11 @@ use Rattle.formats.proofs.Tests.{split, both}
 use Rattle.formats.proofs.facts.Laws.{Ranges, ranges, in-range}
 use Rattle.formats.proofs.head.Laws.{ledger-head, ledger-passes, titles-head, titles-pass, rules-head, rules-pass}
 use Rattle.calls.specs.Buffers.{Buffers, titleAt, ruleAt, stateAt, rowFacts, hereFacts, kindAt, contentAt, factsAt, isFree, isCopy, isFull, isEmpty, isHere, isAway, one, copies, Within}
-use Rattle.calls.specs.Refusal.{Condition, _when_, FirstToHold, NoneHolds}
+use Rattle.calls.specs.Refusal.{Condition, _when_, first, FirstToHold, NoneHolds}
 use Rattle.calls.specs.Conditions.{numbered, factsPass, mayNotMove, conditions}
 use Rattle.calls.specs.Perform.{perform}
-use Rattle.calls.specs.Needs.{Need, _needs_, AllMet, FirstUnmet, FactsInRange, RulesOfLedger, MayMove, NoCopy, needsOf, Needs}
-use Rattle.calls.proofs.Refusals.{answer-first, of-first, to-first, of-none, none-holds, holds-not}
+use Rattle.calls.specs.Needs.{Need, _needs_, AllMet, FirstUnmet, AnsweredBy, FactsInRange, RulesOfLedger, MayMove, NoCopy, needsOf}
+use Rattle.calls.proofs.Refusals.{refusing, none-is-0, answer-first, of-first, to-first, of-none, to-none, holds-not}
 use Rattle.calls.proofs.Named.{HeadsPass, Named, named}
 use Rattle.calls.proofs.Views.{IsRow, in-a-state}
 use Rattle.calls.proofs.History.Totals.{total-at, total-none}
@@ -51,7 +51,7 @@ is-numbered v e = numbered-within v (not-false _ e)
 pub numbers : {v : ℕ} → Within 999 v → not (numbered v) ≡ false
 numbers {v} w = holds-not (within-numbered v (w .from) (w .to))
 
-tests-number : (v : ℕ) → Tests (not (numbered v)) (Within 999 v)
+pub tests-number : (v : ℕ) → Tests (not (numbered v)) (Within 999 v)
 tests-number v = record { met = is-numbered v; unmet = numbers }
 
 -- 6: the facts are in their ranges
@@ -81,8 +81,11 @@ tests-facts f =
 tests-ledger : (l : List ℕ) → Tests (not (ledgerPasses l)) (LedgerHead l)
 tests-ledger l = record { met = λ e. ledger-head l (not-false _ e); unmet = λ h. holds-not (ledger-passes h) }
 
-tests-titles : (t : List ℕ) → Tests (not (titlesPass t)) (TitlesHead t)
+pub tests-titles : (t : List ℕ) → Tests (not (titlesPass t)) (TitlesHead t)
 tests-titles t = record { met = λ e. titles-head (not-false _ e); unmet = λ h. holds-not (titles-pass h) }
+
+pub tests-rule-head : (r : List ℕ) → Tests (not (rulesPass r)) (RulesHead r)
+tests-rule-head r = record { met = λ e. rules-head (not-false _ e); unmet = λ h. holds-not (rules-pass h) }
 
 tests-rules : (b : Buffers) → Tests (not (rulesPass (b .rules) && eqb (rulesApplication (b .rules)) (ledgerApplication (b .ledger)))) (RulesOfLedger b)
 tests-rules b =
@@ -158,7 +161,7 @@ module _ (s : RowState) where
 tests-other : (a n : ℕ) → Tests (eqb a n) (a ≢ n)
 tests-other a n = record { met = eqb-false a n; unmet = ne-eqb a n }
 
-tests-same : (a n : ℕ) → Tests (not (eqb a n)) (a ≡ n)
+pub tests-same : (a n : ℕ) → Tests (not (eqb a n)) (a ≡ n)
 tests-same a n = record { met = λ e. eqb-true a n (not-false _ e); unmet = λ e. holds-not (eq-eqb a n e) }
 
 -- two tests of which neither is to hold
@@ -227,7 +230,7 @@ module _ (c : ℕ) (b : Buffers) where
 
 -- CONDITIONS AND NEEDS IN STEP
 
-abbrev InStep : List Condition → List Need → Type 0
+abbrev pub InStep : List Condition → List Need → Type 0
 InStep [] [] = Unit
 InStep [] ((n needs P) ∷ ns) = ⊥
 InStep ((m when x) ∷ cs) [] = ⊥
@@ -255,6 +258,16 @@ first-holds n [] ((k needs P) ∷ ns) s h = absurd s
 first-holds n ((m when true) ∷ cs) ((k needs P) ∷ ns) s (inl h) = inl (refl, s .0 ∙ h .1)
 first-holds n ((m when false) ∷ cs) ((k needs P) ∷ ns) s (inl h) = absurd (h .0 (s .1 .0 .met refl))
 first-holds n ((m when x) ∷ cs) ((k needs P) ∷ ns) s (inr h) = inr (s .1 .0 .unmet (h .0), first-holds n cs ns (s .1 .1) (h .1))
+
+-- so what answers the first condition that holds is answered by the needs
+pub answered-by : (cs : List Condition) (ns : List Need) {answer : ℕ} → InStep cs ns → refusing cs ≡ true → answer ≡ first cs → AnsweredBy ns answer
+answered-by cs ns s refuses e =
+    record {
+      done = λ met. e ∙ of-none cs (none-hold cs ns s met);
+      only-done = λ zero. all-met cs ns s (to-none cs refuses (sym e ∙ zero));
+      refused = λ n h. e ∙ of-first n cs (first-holds n cs ns s h);
+      only-refused = λ n some d. first-unmet n cs ns s (to-first n cs some (sym e ∙ d));
+    }
 
 -- those of each call are
 in-step : (k : Request) (b : Buffers) → InStep (conditions k b) (needsOf k b)
@@ -475,26 +488,16 @@ in-step (Delete j f) b =
     )
 
 module _ (k : Request) (b : Buffers) where
-  -- where none holds, the needs are met
+  -- a call is done where its needs are met, and else answered by the first that is not
+  pub answered : AnsweredBy (needsOf k b) (perform k b .answer)
+  answered = answered-by (conditions k b) (needsOf k b) (in-step k b) (none-is-0 k b) (answer-first k b)
+
+  -- its needs by their names: where no condition holds, and where it is done
   pub needs-where : NoneHolds (conditions k b) → Named k b
   needs-where none = named k b (all-met (conditions k b) (needsOf k b) (in-step k b) none)
 
-  -- a call that is done has its needs met, and a call whose needs are met is done
-  pub all-needs-met : perform k b .answer ≡ 0 → Needs k b
-  all-needs-met done = all-met (conditions k b) (needsOf k b) (in-step k b) (none-holds k b done)
-
   pub needs-met : perform k b .answer ≡ 0 → Named k b
-  needs-met done = named k b (all-needs-met done)
-
-  pub done-where : Needs k b → perform k b .answer ≡ 0
-  done-where n = answer-first k b ∙ of-none (conditions k b) (none-hold (conditions k b) (needsOf k b) (in-step k b) n)
-
-  -- a call with a need that is not met is answered the number of the first, and no other is
-  pub refused-where : (n : ℕ) → FirstUnmet n (needsOf k b) → perform k b .answer ≡ n
-  refused-where n h = answer-first k b ∙ of-first n (conditions k b) (first-holds n (conditions k b) (needsOf k b) (in-step k b) h)
-
-  pub unmet-where : (n : ℕ) → n ≢ 0 → perform k b .answer ≡ n → FirstUnmet n (needsOf k b)
-  unmet-where n some e = first-unmet n (conditions k b) (needsOf k b) (in-step k b) (to-first n (conditions k b) some (sym (answer-first k b) ∙ e))
+  needs-met done = named k b (answered .only-done done)
 
 -- THE PLACES of a call whose needs are met
 

@@ -189,7 +189,7 @@ numbers-checked (MoveIn c j h) b = refl
 numbers-checked (Delete j f) b = refl
 
 -- of which none is 0
-none-is-0 : (k : Request) (b : Buffers) → refusing (conditions k b) ≡ true
+pub none-is-0 : (k : Request) (b : Buffers) → refusing (conditions k b) ≡ true
 unfolding conditions
 none-is-0 (Register c f) b = refl
 none-is-0 (Record c j f h) b = refl

@@ -169,7 +169,7 @@ registered c f is in-range =
     let w = work-is-done k b in
     let l = w .leaves (fresh-bytes 64 0 0) n in
     record {
-      done = w .done n;
+      done = w .answered .done n;
       after =
           record {
             bytes = in-bounds k b .stay-bytes (fresh-bytes 64 0 0);
@@ -211,7 +211,7 @@ recorded b s =
     }) in
     let w = work-is-done recording b in
     let l = w .leaves (s .bytes) n in
-    record { done = w .done n; after = record { tables = open-after recording b refl o; away = l .row .reads; entry = l .entry } }
+    record { done = w .answered .done n; after = record { tables = open-after recording b refl o; away = l .row .reads; entry = l .entry } }
 
 -- 5 move out
 moved-out : (b : Buffers) → AtSeven b → Goes moveOut b (λ c. Home c 1)
@@ -235,7 +235,7 @@ moved-out b s =
     let row : RowIs (perform moveOut b .buffers) 1 (Here (rowFacts (perform moveOut b .buffers) 1)) (hereRow (rowFacts (perform moveOut b .buffers) 1)) = rw (e .id) at (l .row) in
     let facts : Recounted twoMoves 1 1 (rowFacts (perform moveOut b .buffers) 1) = rw (e .id, e .facts) at (l .facts) in
     record {
-      done = w .done n;
+      done = w .answered .done n;
       after =
           record {
             standing =
@@ -269,7 +269,7 @@ lent-out b h =
     let w = work-is-done k b in
     let l = w .leaves (o .bytes) n in
     record {
-      done = w .done n;
+      done = w .answered .done n;
       after =
           record {
             standing =
@@ -303,7 +303,7 @@ checked-in b s =
     let l = w .leaves (i .tables .bytes) n in
     let row : PermitsBecome b (perform checkIn b .buffers) 1 (oneMore (rowFacts b 1 .permits)) = rw (s .id) at (l .row) in
     record {
-      done = w .done n;
+      done = w .answered .done n;
       after =
           record {
             standing =
@@ -327,7 +327,7 @@ copy-deleted b s =
     let w = work-is-done k b in
     let l = w .leaves (i .tables .bytes) n .of-copy (s .copy) in
     record {
-      done = w .done n;
+      done = w .answered .done n;
       after =
           record {
             standing = record { tables = open-after k b refl (i .tables); here = rw (l .ledger) (i .here); facts = rw (l .ledger) (i .facts) };
@@ -356,7 +356,7 @@ moved-in b permits h =
     let l = w .leaves (o .bytes) n in
     let after = perform moveIn b .buffers in
     record {
-      done = w .done n;
+      done = w .answered .done n;
       after =
           record {
             heads = heads-kept moveIn b (o .heads);
@@ -371,7 +371,7 @@ moved-in b permits h =
 -- 7 delete, of the title in entry 9
 holder-deleted : (b : Buffers) → AtNine b → perform (deletion 9) b .answer ≡ 0
 holder-deleted b s =
-    work-is-done (deletion 9) b .done
+    work-is-done (deletion 9) b .answered .done
     (unnamed (deletion 9) b
     (record {
       entry = nine;
@@ -387,7 +387,7 @@ move-in-refused : (b : Buffers) → Lent b → perform moveIn b .answer ≡ 14
 move-in-refused b s =
     let i = s .standing in
     let p = i .tables .heads in
-    work-is-done moveIn b .refused 14
+    work-is-done moveIn b .answered .refused 14
     (inr (
       one,
       inr (
@@ -419,7 +419,7 @@ check-out-refused : (b : Buffers) → Lent b → perform (checkOut 8) b .answer 
 check-out-refused b s =
     let i = s .standing in
     let p = i .tables .heads in
-    work-is-done (checkOut 8) b .refused 12
+    work-is-done (checkOut 8) b .answered .refused 12
     (inr (
       one,
       inr (

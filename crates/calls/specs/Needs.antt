@@ -29,6 +29,14 @@ abbrev pub FirstUnmet : ℕ → List Need → Type 0
 FirstUnmet n [] = ⊥
 FirstUnmet n ((m needs P) ∷ rest) = ((P → ⊥) × (m ≡ n)) ⊎ (P × FirstUnmet n rest)
 
+-- "Each number is returned on its condition and on no other.": 0 exactly where all needs are met, and else the number of the first
+-- that is not
+pub record AnsweredBy (needed : List Need) (answer : ℕ) : Type 0 where
+  pub done : AllMet needed → answer ≡ 0
+  pub only-done : answer ≡ 0 → AllMet needed
+  pub refused : (n : ℕ) → FirstUnmet n needed → answer ≡ n
+  pub only-refused : (n : ℕ) → n ≢ 0 → answer ≡ n → FirstUnmet n needed
+
 -- those of a number below n hold
 abbrev pub Where : Bool → Type 0 → Type 0
 Where true P = P

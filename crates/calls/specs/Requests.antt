@@ -32,7 +32,7 @@ limitConditions Permits v = 6 unless countPasses v ∷ []
 limitConditions Key v = 6 unless keyPasses v ∷ []
 limitConditions Any v = []
 
--- 1 and 2 of the number at the front of bytes: it is refused with that number
+-- 1 and 2 of the number at the front of bytes: it is refused with that number, which `NumberRefused` says of the bytes
 abbrev pub isRefused : ℕ → NumberRead → Bool
 isRefused w (Number v k) = false
 isRefused w (Refused n) = eqb n w

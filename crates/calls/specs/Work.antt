@@ -21,7 +21,7 @@ use Rattle.requests.specs.declared.request.Request.the-variants.{Register, Reco
 use Rattle.calls.specs.Count.{oneLess, oneMore}
 use Rattle.calls.specs.Buffers.{Buffers, lent, rowAt, titleAt, ruleAt, stateAt, rowFacts, kindAt, contentAt, factsAt, titleKey, stiKey, hashAt}
 use Rattle.calls.specs.Perform.{perform, AreBytes}
-use Rattle.calls.specs.Needs.{FirstUnmet, needsOf, Needs}
+use Rattle.calls.specs.Needs.{AnsweredBy, needsOf, Needs}
 use Rattle.calls.specs.Untouched.{Untouched}
 
 -- THE ROW AND THE ENTRY of a done call
@@ -139,11 +139,7 @@ Left (Delete j f) b after = Deleted (j .0) f b after
 
 -- of one call on any buffers
 pub record Works (k : Request) (b : Buffers) : Type 0 where
-  pub done : Needs k b → perform k b .answer ≡ 0
-  pub only-done : perform k b .answer ≡ 0 → Needs k b
-  -- "Each number is returned on its condition and on no other."
-  pub refused : (n : ℕ) → FirstUnmet n (needsOf k b) → perform k b .answer ≡ n
-  pub only-refused : (n : ℕ) → n ≢ 0 → perform k b .answer ≡ n → FirstUnmet n (needsOf k b)
+  pub answered : AnsweredBy (needsOf k b) (perform k b .answer)
   pub leaves : AreBytes b → Needs k b → Left k b (perform k b .buffers)
   pub untouched : Untouched k b (perform k b .buffers)
 

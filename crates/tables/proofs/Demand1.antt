@@ -10,15 +10,14 @@ use lib.ListN.{length}
 use borrow.Author.Tests.{eq-eqb, ne-eqb, eqb-true, not-false}
 use Rattle.formats.specs.Answer.{done, refused}
 use Rattle.formats.specs.Bytes.{Bytes}
-use Rattle.formats.specs.Head.{titlesPass, rulesPass, freshLedger, freshTitles, freshRules}
+use Rattle.formats.specs.Head.{freshTitles, freshRules}
 use Rattle.formats.proofs.head.Laws.{fresh-ledger-length, fresh-titles-length, fresh-rules-length, fresh-ledger-bytes, fresh-titles-bytes, fresh-rules-bytes}
-use Rattle.calls.specs.Buffers.{copies, Within}
-use Rattle.calls.specs.Refusal.{first}
+use Rattle.calls.specs.Buffers.{copies}
 use Rattle.tables.specs.Format.{ledgerConditions, ledgerFormatting, formattedLedger, cardConditions, cardFormatting, formattedTitles, formattedRules}
 use Rattle.tables.specs.Tally.{tallyConditions, tallyRefusal, tallied}
 use Rattle.tables.specs.Demand1.{FormatsLedger, FormatsCard, Tallies, Demand1Tables}
-use Rattle.calls.proofs.Refusals.{refused-first, either-way, of-none, holds-not}
-use Rattle.calls.proofs.Passed.{numbers}
+use Rattle.calls.proofs.Refusals.{refused-first, either-way}
+use Rattle.calls.proofs.Passed.{answered-by, tests-number, tests-same, tests-titles, tests-rule-head}
 
 -- a test of a length that does not refuse
 long : (n m : ℕ) → not (eqb n m) ≡ false → n ≡ m
@@ -30,7 +29,7 @@ formats-ledger ledger rows application =
     let d = refused-first (ledgerConditions ledger rows) refl refl refl refl in
     record {
       refused-first = d;
-      done = λ in-range size. of-none (ledgerConditions ledger rows) (numbers in-range, (holds-not (eq-eqb _ _ size), tt));
+      answered = answered-by (ledgerConditions ledger rows) _ (refl, (tests-number rows, (refl, (tests-same (length ledger) (24 * (rows + 1)), tt)))) refl refl;
       same-length =
           either-way (λ (l : List ℕ). length l ≡ length ledger) d refl
           (λ none. fresh-ledger-length rows application ∙ sym (long (length ledger) (24 * (rows + 1)) (none .1 .0)));
@@ -43,7 +42,7 @@ formats-card titles rules application =
     let d = refused-first (cardConditions titles rules) refl refl refl (both-or-none (eqb (cardFormatting titles rules) 0)) in
     record {
       refused-first = d;
-      done = λ t r. of-none (cardConditions titles rules) (holds-not (eq-eqb _ _ t), (holds-not (eq-eqb _ _ r), tt));
+      answered = answered-by (cardConditions titles rules) _ (refl, (tests-same (length titles) 16000, (refl, (tests-same (length rules) 32000, tt)))) refl refl;
       same-lengths =
           either-way (λ (p : List ℕ × List ℕ). (length (p .0) ≡ length titles) × (length (p .1) ≡ length rules)) d (refl, refl)
           (λ none. (fresh-titles-length ∙ sym (long (length titles) 16000 (none .0)), fresh-rules-length application ∙ sym (long (length rules) 32000 (none .1 .0))));
@@ -73,9 +72,9 @@ tallies titles rules c =
       refused-first =
           refused-first (tallyConditions titles rules c) refl refl (number-is n values)
           (values-are (eqb n 0) n values ∙ ap (λ (m : ℕ). cond (eqb m 0) values []) (sym (number-is n values)));
-      counted = λ in-range t r.
-          ap (λ (m : ℕ). cond (eqb m 0) (done values) (refused m))
-          (of-none (tallyConditions titles rules c) (numbers in-range, (holds-not t, (holds-not r, tt))));
+      answered =
+          answered-by (tallyConditions titles rules c) _ (refl, (tests-number c, (refl, (tests-titles titles, (refl, (tests-rule-head rules, tt)))))) refl
+          (number-is n values);
     }
 
 -- DEMAND 1

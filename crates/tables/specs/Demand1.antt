@@ -1,15 +1,14 @@
--- Demand 1 of formatting and of the tally, in the form in which it is said of the calls; and that they are done, in the paper's
--- words.
+-- Demand 1 of formatting and of the tally, in the two forms in which it is said of the calls: by conditions, and by needs in the
+-- paper's words.
 use Prim.Native.Nat.{ℕ, _+_, _*_}
 use mathlib.Core.Path.{_≡_}
 use mathlib.Core.List.{List, [], _∷_}
-use mathlib.Core.Bool.{true}
 use lib.ListN.{length}
-use Rattle.formats.specs.Answer.{done}
 use Rattle.formats.specs.Bytes.{Bytes}
-use Rattle.formats.specs.Head.{titlesPass, rulesPass, freshLedger, freshTitles, freshRules}
+use Rattle.formats.specs.Head.{TitlesHead, RulesHead, freshLedger, freshTitles, freshRules}
 use Rattle.calls.specs.Buffers.{copies, Within}
 use Rattle.calls.specs.Refusal.{RefusedFirst}
+use Rattle.calls.specs.Needs.{_needs_, AnsweredBy}
 use Rattle.tables.specs.Format.{ledgerConditions, ledgerFormatting, formattedLedger, cardConditions, cardFormatting, formattedTitles, formattedRules}
 use Rattle.tables.specs.Tally.{tallyConditions, tallied}
 
@@ -17,7 +16,7 @@ use Rattle.tables.specs.Tally.{tallyConditions, tallied}
 pub record FormatsLedger (ledger : List ℕ) (rows application : ℕ) : Type 0 where
   pub refused-first : RefusedFirst (List ℕ) (4 ∷ 7 ∷ []) (ledgerConditions ledger rows) (ledgerFormatting ledger rows)
       ledger (formattedLedger ledger rows application) (freshLedger rows application)
-  pub done : Within 999 rows → length ledger ≡ 24 * (rows + 1) → ledgerFormatting ledger rows ≡ 0
+  pub answered : AnsweredBy (4 needs Within 999 rows ∷ 7 needs (length ledger ≡ 24 * (rows + 1)) ∷ []) (ledgerFormatting ledger rows)
   pub same-length : length (formattedLedger ledger rows application) ≡ length ledger
   pub stays-bytes : Bytes ledger → Bytes (formattedLedger ledger rows application)
 
@@ -25,7 +24,7 @@ pub record FormatsLedger (ledger : List ℕ) (rows application : ℕ) : Type 0 w
 pub record FormatsCard (titles rules : List ℕ) (application : ℕ) : Type 0 where
   pub refused-first : RefusedFirst (List ℕ × List ℕ) (8 ∷ 9 ∷ []) (cardConditions titles rules) (cardFormatting titles rules)
       (titles, rules) (formattedTitles titles rules, formattedRules titles rules application) (freshTitles, freshRules application)
-  pub done : length titles ≡ 16000 → length rules ≡ 32000 → cardFormatting titles rules ≡ 0
+  pub answered : AnsweredBy (8 needs (length titles ≡ 16000) ∷ 9 needs (length rules ≡ 32000) ∷ []) (cardFormatting titles rules)
   pub same-lengths : (length (formattedTitles titles rules) ≡ length titles) × (length (formattedRules titles rules application) ≡ length rules)
   pub stay-bytes : Bytes titles → Bytes rules → Bytes (formattedTitles titles rules) × Bytes (formattedRules titles rules application)
 
@@ -33,7 +32,7 @@ pub record FormatsCard (titles rules : List ℕ) (application : ℕ) : Type 0 wh
 pub record Tallies (titles rules : List ℕ) (c : ℕ) : Type 0 where
   pub refused-first : RefusedFirst (List ℕ) (4 ∷ 8 ∷ 9 ∷ []) (tallyConditions titles rules c) (tallied titles rules c .number)
       [] (tallied titles rules c .values) (copies c titles rules ∷ [])
-  pub counted : Within 999 c → titlesPass titles ≡ true → rulesPass rules ≡ true → tallied titles rules c ≡ done (copies c titles rules ∷ [])
+  pub answered : AnsweredBy (4 needs Within 999 c ∷ 8 needs TitlesHead titles ∷ 9 needs RulesHead rules ∷ []) (tallied titles rules c .number)
 
 -- DEMAND 1, of formatting and tally
 pub record Demand1Tables : Type 0 where
