@@ -230,271 +230,79 @@ module _ (c : ℕ) (b : Buffers) where
 
 -- CONDITIONS AND NEEDS IN STEP
 
-abbrev pub InStep : List Condition → List Need → Type 0
-InStep [] [] = Unit
-InStep [] ((n needs P) ∷ ns) = ⊥
-InStep ((m when x) ∷ cs) [] = ⊥
-InStep ((m when x) ∷ cs) ((n needs P) ∷ ns) = (m ≡ n) × (Tests x P × InStep cs ns)
+pub data InStep : List Condition → List Need → Type 1 where
+  end : InStep [] []
+  _then_ : {n : ℕ} {x : Bool} {P : Type 0} {cs : List Condition} {ns : List Need} → Tests x P → InStep cs ns → InStep ((n when x) ∷ cs) ((n needs P) ∷ ns)
 
+infixr 20 _then_
 -- where no condition holds, all needs are met, and the other way round
-all-met : (cs : List Condition) (ns : List Need) → InStep cs ns → NoneHolds cs → AllMet ns
-all-met [] [] s h = tt
-all-met [] ((n needs P) ∷ ns) s h = absurd s
-all-met ((m when x) ∷ cs) ((n needs P) ∷ ns) s h = (s .1 .0 .met (h .0), all-met cs ns (s .1 .1) (h .1))
+all-met : {cs : List Condition} {ns : List Need} → InStep cs ns → NoneHolds cs → AllMet ns
+all-met end h = tt
+all-met (t then s) h = (t .met (h .0), all-met s (h .1))
 
-none-hold : (cs : List Condition) (ns : List Need) → InStep cs ns → AllMet ns → NoneHolds cs
-none-hold [] [] s h = tt
-none-hold [] ((n needs P) ∷ ns) s h = tt
-none-hold ((m when x) ∷ cs) [] s h = absurd s
-none-hold ((m when x) ∷ cs) ((n needs P) ∷ ns) s h = (s .1 .0 .unmet (h .0), none-hold cs ns (s .1 .1) (h .1))
+none-hold : {cs : List Condition} {ns : List Need} → InStep cs ns → AllMet ns → NoneHolds cs
+none-hold end h = tt
+none-hold (t then s) h = (t .unmet (h .0), none-hold s (h .1))
 
 -- the first condition that holds is that of the first need that is not met
-first-unmet : (n : ℕ) (cs : List Condition) (ns : List Need) → InStep cs ns → FirstToHold n cs → FirstUnmet n ns
-first-unmet n ((m when x) ∷ cs) ((k needs P) ∷ ns) s (inl h) = inl (λ p. true≢false (sym (h .0) ∙ s .1 .0 .unmet p), sym (s .0) ∙ h .1)
-first-unmet n ((m when x) ∷ cs) ((k needs P) ∷ ns) s (inr h) = inr (s .1 .0 .met (h .0), first-unmet n cs ns (s .1 .1) (h .1))
+first-unmet : {cs : List Condition} {ns : List Need} (n : ℕ) → InStep cs ns → FirstToHold n cs → FirstUnmet n ns
+first-unmet n (t then s) (inl h) = inl (λ p. true≢false (sym (h .0) ∙ t .unmet p), h .1)
+first-unmet n (t then s) (inr h) = inr (t .met (h .0), first-unmet n s (h .1))
 
-first-holds : (n : ℕ) (cs : List Condition) (ns : List Need) → InStep cs ns → FirstUnmet n ns → FirstToHold n cs
-first-holds n [] ((k needs P) ∷ ns) s h = absurd s
-first-holds n ((m when true) ∷ cs) ((k needs P) ∷ ns) s (inl h) = inl (refl, s .0 ∙ h .1)
-first-holds n ((m when false) ∷ cs) ((k needs P) ∷ ns) s (inl h) = absurd (h .0 (s .1 .0 .met refl))
-first-holds n ((m when x) ∷ cs) ((k needs P) ∷ ns) s (inr h) = inr (s .1 .0 .unmet (h .0), first-holds n cs ns (s .1 .1) (h .1))
+-- a condition holds where its need is not met
+holds-where : {x : Bool} {P : Type 0} → Tests x P → (P → ⊥) → x ≡ true
+holds-where {x = true} t h = refl
+holds-where {x = false} t h = absurd (h (t .met refl))
+
+first-holds : {cs : List Condition} {ns : List Need} (n : ℕ) → InStep cs ns → FirstUnmet n ns → FirstToHold n cs
+first-holds n (t then s) (inl h) = inl (holds-where t (h .0), h .1)
+first-holds n (t then s) (inr h) = inr (t .unmet (h .0), first-holds n s (h .1))
 
 -- so what answers the first condition that holds is answered by the needs
-pub answered-by : (cs : List Condition) (ns : List Need) {answer : ℕ} → InStep cs ns → refusing cs ≡ true → answer ≡ first cs → AnsweredBy ns answer
-answered-by cs ns s refuses e =
+pub answered-by : {cs : List Condition} {ns : List Need} {answer : ℕ} → InStep cs ns → refusing cs ≡ true → answer ≡ first cs → AnsweredBy ns answer
+answered-by {cs} s refuses e =
     record {
-      done = λ met. e ∙ of-none cs (none-hold cs ns s met);
-      only-done = λ zero. all-met cs ns s (to-none cs refuses (sym e ∙ zero));
-      refused = λ n h. e ∙ of-first n cs (first-holds n cs ns s h);
-      only-refused = λ n some d. first-unmet n cs ns s (to-first n cs some (sym e ∙ d));
+      done = λ met. e ∙ of-none cs (none-hold s met);
+      only-done = λ zero. all-met s (to-none cs refuses (sym e ∙ zero));
+      refused = λ n h. e ∙ of-first n cs (first-holds n s h);
+      only-refused = λ n some d. first-unmet n s (to-first n cs some (sym e ∙ d));
     }
 
 -- those of each call are
 in-step : (k : Request) (b : Buffers) → InStep (conditions k b) (needsOf k b)
 unfolding conditions
-in-step (Register c f) b =
-    (refl, (tests-number (c .0), (refl, (tests-facts f, (refl, (tests-ledger (b .ledger), (refl, (tests-empty (stateAt b (c .0)), tt))))))))
-in-step (Record c j f h) b = (
-  refl,
-  (
-    tests-number (c .0),
-    (
-      refl,
-      (
-        tests-number (j .0),
-        (
-          refl,
-          (
-            tests-facts f,
-            (
-              refl,
-              (
-                tests-ledger (b .ledger),
-                (
-                  refl,
-                  (
-                    tests-titles (b .titles),
-                    (
-                      refl,
-                      (
-                        tests-rules b,
-                        (refl, (tests-free (kindAt b (j .0)), (refl, (tests-empty (stateAt b (c .0)), tt)))),
-                      ),
-                    ),
-                  ),
-                ),
-              ),
-            ),
-          ),
-        ),
-      ),
-    ),
-  ),
-)
-in-step (CheckOut c j) b = (
-  refl,
-  (
-    tests-number (c .0),
-    (
-      refl,
-      (
-        tests-number (j .0),
-        (
-          refl,
-          (
-            tests-ledger (b .ledger),
-            (
-              refl,
-              (
-                tests-titles (b .titles),
-                (
-                  refl,
-                  (
-                    tests-rules b,
-                    (refl, (tests-free (kindAt b (j .0)), (refl, (tests-here (stateAt b (c .0)), (refl, (tests-other (rowFacts b (c .0) .permits) 0, tt)))))),
-                  ),
-                ),
-              ),
-            ),
-          ),
-        ),
-      ),
-    ),
-  ),
-)
+in-step (Register c f) b = tests-number (c .0) then tests-facts f then tests-ledger (b .ledger) then tests-empty (stateAt b (c .0)) then end
+in-step (Record c j f h) b =
+    tests-number (c .0) then tests-number (j .0) then tests-facts f then tests-ledger (b .ledger) then tests-titles (b .titles) then tests-rules b
+    then tests-free (kindAt b (j .0)) then tests-empty (stateAt b (c .0)) then end
+in-step (CheckOut c j) b =
+    tests-number (c .0) then tests-number (j .0) then tests-ledger (b .ledger) then tests-titles (b .titles) then tests-rules b
+    then tests-free (kindAt b (j .0)) then tests-here (stateAt b (c .0)) then tests-other (rowFacts b (c .0) .permits) 0 then end
 in-step (CheckIn j f1) b =
-    let c = contentAt b (j .0) in (
-      refl,
-      (
-        tests-number (j .0),
-        (
-          refl,
-          (
-            tests-ledger (b .ledger),
-            (
-              refl,
-              (
-                tests-titles (b .titles),
-                (
-                  refl,
-                  (
-                    tests-rules b,
-                    (refl, (tests-copy (kindAt b (j .0)), (refl, (tests-here (stateAt b c), (refl, (tests-other (rowFacts b c .permits) 14, (refl, (tests-other _ _, tt)))))))),
-                  ),
-                ),
-              ),
-            ),
-          ),
-        ),
-      ),
-    )
-in-step (MoveOut j h f) b = (
-  refl,
-  (
-    tests-number (j .0),
-    (
-      refl,
-      (
-        tests-ledger (b .ledger),
-        (
-          refl,
-          (
-            tests-titles (b .titles),
-            (
-              refl,
-              (
-                tests-rules b,
-                (
-                  refl,
-                  (
-                    tests-full (kindAt b (j .0)),
-                    (
-                      refl,
-                      (
-                        tests-away (stateAt b (contentAt b (j .0))),
-                        (
-                          refl,
-                          (
-                            tests-move (factsAt b (j .0)),
-                            (
-                              refl,
-                              (
-                                tests-same h _,
-                                (refl, (tests-both (tests-other _ _) (tests-other _ _), tt)),
-                              ),
-                            ),
-                          ),
-                        ),
-                      ),
-                    ),
-                  ),
-                ),
-              ),
-            ),
-          ),
-        ),
-      ),
-    ),
-  ),
-)
-in-step (MoveIn c j h) b = (
-  refl,
-  (
-    tests-number (c .0),
-    (
-      refl,
-      (
-        tests-number (j .0),
-        (
-          refl,
-          (
-            tests-ledger (b .ledger),
-            (
-              refl,
-              (
-                tests-titles (b .titles),
-                (
-                  refl,
-                  (
-                    tests-rules b,
-                    (refl, (tests-free (kindAt b (j .0)), (refl, (tests-here (stateAt b (c .0)), (refl, (tests-move (rowFacts b (c .0)), (refl, (tests-copies (c .0) b, tt)))))))),
-                  ),
-                ),
-              ),
-            ),
-          ),
-        ),
-      ),
-    ),
-  ),
-)
+    let c = contentAt b (j .0) in
+    tests-number (j .0) then tests-ledger (b .ledger) then tests-titles (b .titles) then tests-rules b
+    then tests-copy (kindAt b (j .0)) then tests-here (stateAt b c) then tests-other (rowFacts b c .permits) 14 then tests-other _ _ then end
+in-step (MoveOut j h f) b =
+    tests-number (j .0) then tests-ledger (b .ledger) then tests-titles (b .titles) then tests-rules b
+    then tests-full (kindAt b (j .0)) then tests-away (stateAt b (contentAt b (j .0))) then tests-move (factsAt b (j .0)) then tests-same h _
+    then tests-both (tests-other _ _) (tests-other _ _) then end
+in-step (MoveIn c j h) b =
+    tests-number (c .0) then tests-number (j .0) then tests-ledger (b .ledger) then tests-titles (b .titles) then tests-rules b
+    then tests-free (kindAt b (j .0)) then tests-here (stateAt b (c .0)) then tests-move (rowFacts b (c .0)) then tests-copies (c .0) b then end
 in-step (Delete j f) b =
-    let k = kindAt b (j .0) in (
-      refl,
-      (
-        tests-number (j .0),
-        (
-          refl,
-          (
-            tests-ledger (b .ledger),
-            (
-              refl,
-              (
-                tests-titles (b .titles),
-                (
-                  refl,
-                  (
-                    tests-rules b,
-                    (
-                      refl,
-                      (
-                        tests-either k,
-                        (
-                          refl,
-                          (
-                            tests-if-full k (tests-away (stateAt b (contentAt b (j .0)))),
-                            (refl, (tests-both (tests-other _ _) (tests-if-full k (tests-other _ _)), tt)),
-                          ),
-                        ),
-                      ),
-                    ),
-                  ),
-                ),
-              ),
-            ),
-          ),
-        ),
-      ),
-    )
+    let k = kindAt b (j .0) in
+    tests-number (j .0) then tests-ledger (b .ledger) then tests-titles (b .titles) then tests-rules b
+    then tests-either k then tests-if-full k (tests-away (stateAt b (contentAt b (j .0))))
+    then tests-both (tests-other _ _) (tests-if-full k (tests-other _ _)) then end
 
 module _ (k : Request) (b : Buffers) where
   -- a call is done where its needs are met, and else answered by the first that is not
   pub answered : AnsweredBy (needsOf k b) (perform k b .answer)
-  answered = answered-by (conditions k b) (needsOf k b) (in-step k b) (none-is-0 k b) (answer-first k b)
+  answered = answered-by (in-step k b) (none-is-0 k b) (answer-first k b)
 
   -- its needs by their names: where no condition holds, and where it is done
   pub needs-where : NoneHolds (conditions k b) → Named k b
-  needs-where none = named k b (all-met (conditions k b) (needsOf k b) (in-step k b) none)
+  needs-where none = named k b (all-met (in-step k b) none)
 
   pub needs-met : perform k b .answer ≡ 0 → Named k b
   needs-met done = named k b (answered .only-done done)

@@ -3,7 +3,7 @@
 -- Assumes nothing.
 use Prim.Native.Nat.{ℕ, _≤_}
 use mathlib.Core.Path.{_≡_, refl, sym, ap, ap₂, _∙_}
-use mathlib.Core.Logic.{_≢_, inl, inr}
+use mathlib.Core.Logic.{_≢_, _⊎_, inl, inr}
 use mathlib.Core.List.{List, [], _∷_}
 use mathlib.Core.Option.{some}
 use native.Mathlib.Omega.{arith}
@@ -382,37 +382,22 @@ holder-deleted b s =
 
 -- REFUSED
 
+-- a need that is met, and then another; the one that is not met
+_met-then_ : {A B C : Type 0} → A → B → C ⊎ (A × B)
+p met-then rest = inr (p, rest)
+
+infixr 20 _met-then_
+unmet : {A C : Type 0} {n : ℕ} → (A → ⊥) → ((A → ⊥) × (n ≡ n)) ⊎ C
+unmet h = inl (h, refl)
+
 -- 6 move in, while the copy is out
 move-in-refused : (b : Buffers) → Lent b → perform moveIn b .answer ≡ 14
 move-in-refused b s =
     let i = s .standing in
     let p = i .tables .heads in
     work-is-done moveIn b .answered .refused 14
-    (inr (
-      one,
-      inr (
-        nine,
-        inr (
-          p .ledger,
-          inr (
-            p .titles,
-            inr (
-              p .rules,
-              inr (
-                i .tables .free 9 nine (λ e. omega arith),
-                inr (
-                  i .here,
-                  inr (
-                    may-move-1 (i .facts),
-                    inl (λ none. none 7 seven (s .copy) (s .id), refl),
-                  ),
-                ),
-              ),
-            ),
-          ),
-        ),
-      ),
-    ))
+    (one met-then nine met-then p .ledger met-then p .titles met-then p .rules met-then i .tables .free 9 nine (λ e. omega arith)
+    met-then i .here met-then may-move-1 (i .facts) met-then unmet (λ none. none 7 seven (s .copy) (s .id)))
 
 -- 3 check-out, with no permit left
 check-out-refused : (b : Buffers) → Lent b → perform (checkOut 8) b .answer ≡ 12
@@ -420,28 +405,8 @@ check-out-refused b s =
     let i = s .standing in
     let p = i .tables .heads in
     work-is-done (checkOut 8) b .answered .refused 12
-    (inr (
-      one,
-      inr (
-        eight,
-        inr (
-          p .ledger,
-          inr (
-            p .titles,
-            inr (
-              p .rules,
-              inr (
-                i .tables .free 8 eight (λ e. omega arith),
-                inr (
-                  i .here,
-                  inl (λ left. left (i .facts .permits-are), refl),
-                ),
-              ),
-            ),
-          ),
-        ),
-      ),
-    ))
+    (one met-then eight met-then p .ledger met-then p .titles met-then p .rules met-then i .tables .free 8 eight (λ e. omega arith)
+    met-then i .here met-then unmet (λ left. left (i .facts .permits-are)))
 
 -- THE RUNS
 

@@ -17,7 +17,7 @@ use Rattle.tables.specs.Format.{ledgerConditions, ledgerFormatting, form
 use Rattle.tables.specs.Tally.{tallyConditions, tallyRefusal, tallied}
 use Rattle.tables.specs.Demand1.{FormatsLedger, FormatsCard, Tallies, Demand1Tables}
 use Rattle.calls.proofs.Refusals.{refused-first, either-way}
-use Rattle.calls.proofs.Passed.{answered-by, tests-number, tests-same, tests-titles, tests-rule-head}
+use Rattle.calls.proofs.Passed.{end, _then_, answered-by, tests-number, tests-same, tests-titles, tests-rule-head}
 
 -- a test of a length that does not refuse
 long : (n m : ℕ) → not (eqb n m) ≡ false → n ≡ m
@@ -29,7 +29,7 @@ formats-ledger ledger rows application =
     let d = refused-first (ledgerConditions ledger rows) refl refl refl refl in
     record {
       refused-first = d;
-      answered = answered-by (ledgerConditions ledger rows) _ (refl, (tests-number rows, (refl, (tests-same (length ledger) (24 * (rows + 1)), tt)))) refl refl;
+      answered = answered-by (tests-number rows then tests-same (length ledger) (24 * (rows + 1)) then end) refl refl;
       same-length =
           either-way (λ (l : List ℕ). length l ≡ length ledger) d refl
           (λ none. fresh-ledger-length rows application ∙ sym (long (length ledger) (24 * (rows + 1)) (none .1 .0)));
@@ -42,7 +42,7 @@ formats-card titles rules application =
     let d = refused-first (cardConditions titles rules) refl refl refl (both-or-none (eqb (cardFormatting titles rules) 0)) in
     record {
       refused-first = d;
-      answered = answered-by (cardConditions titles rules) _ (refl, (tests-same (length titles) 16000, (refl, (tests-same (length rules) 32000, tt)))) refl refl;
+      answered = answered-by (tests-same (length titles) 16000 then tests-same (length rules) 32000 then end) refl refl;
       same-lengths =
           either-way (λ (p : List ℕ × List ℕ). (length (p .0) ≡ length titles) × (length (p .1) ≡ length rules)) d (refl, refl)
           (λ none. (fresh-titles-length ∙ sym (long (length titles) 16000 (none .0)), fresh-rules-length application ∙ sym (long (length rules) 32000 (none .1 .0))));
@@ -72,9 +72,7 @@ tallies titles rules c =
       refused-first =
           refused-first (tallyConditions titles rules c) refl refl (number-is n values)
           (values-are (eqb n 0) n values ∙ ap (λ (m : ℕ). cond (eqb m 0) values []) (sym (number-is n values)));
-      answered =
-          answered-by (tallyConditions titles rules c) _ (refl, (tests-number c, (refl, (tests-titles titles, (refl, (tests-rule-head rules, tt)))))) refl
-          (number-is n values);
+      answered = answered-by (tests-number c then tests-titles titles then tests-rule-head rules then end) refl (number-is n values);
     }
 
 -- DEMAND 1
