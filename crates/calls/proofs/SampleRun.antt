@@ -20,7 +20,8 @@ use Rattle.calls.specs.Perform.{perform, answers, AreBytes}
 use Rattle.calls.specs.Needs.{FactsInRange, MayMove, Needs}
 use Rattle.calls.specs.Untouched.{titleWritten}
 use Rattle.calls.specs.Work.{RowIs, Recounted, PermitsBecome, FullEntry}
-use Rattle.calls.specs.SampleRun.{sampleFacts, twoMoves, registration, checkOut, checkIn, moveIn, recording, moveOut, deletion, SampleRun, EveryCallDone}
+use Rattle.calls.specs.Examples.{checkOut}
+use Rattle.calls.specs.SampleRun.{sampleFacts, twoMoves, registration, checkIn, moveIn, recording, moveOut, deletion, SampleRun, EveryCallDone}
 use Rattle.calls.proofs.Refusals.{unchanged}
 use Rattle.calls.proofs.Named.{HeadsPass, a-copy, a-holder, unnamed}
 use Rattle.calls.proofs.Passed.{found}
@@ -257,10 +258,10 @@ moved-out b s =
     }
 
 -- 3 check-out to entry 7
-lent-out : (b : Buffers) → Home b 1 → Goes (checkOut 7) b Lent
+lent-out : (b : Buffers) → Home b 1 → Goes (checkOut 1 7) b Lent
 unfolding oneLess
 lent-out b h =
-    let k = checkOut 7 in
+    let k = checkOut 1 7 in
     let s = h .standing in
     let o = s .tables in
     let n : Needs k b =
@@ -400,11 +401,11 @@ move-in-refused b s =
     met-then i .here met-then may-move-1 (i .facts) met-then unmet (λ none. none 7 seven (s .copy) (s .id)))
 
 -- 3 check-out, with no permit left
-check-out-refused : (b : Buffers) → Lent b → perform (checkOut 8) b .answer ≡ 12
+check-out-refused : (b : Buffers) → Lent b → perform (checkOut 1 8) b .answer ≡ 12
 check-out-refused b s =
     let i = s .standing in
     let p = i .tables .heads in
-    work-is-done (checkOut 8) b .answered .refused 12
+    work-is-done (checkOut 1 8) b .answered .refused 12
     (one met-then eight met-then p .ledger met-then p .titles met-then p .rules met-then i .tables .free 8 eight (λ e. omega arith)
     met-then i .here met-then unmet (λ left. left (i .facts .permits-are)))
 
@@ -430,8 +431,8 @@ in-ledger c low high = record { from = low; to = high }
 pub sample-run : SampleRun
 sample-run =
     on (registration 1 sampleFacts) _ (fresh 64 0 0) (registered 1 sampleFacts (in-ledger 1 (omega arith) (omega arith)) (in-range 1 (omega arith))) (λ b s.
-    on (checkOut 7) _ b (lent-out b (at-home b s)) (λ c l.
-    on-refused (checkOut 8) _ c (check-out-refused c l) (λ e. omega arith)
+    on (checkOut 1 7) _ b (lent-out b (at-home b s)) (λ c l.
+    on-refused (checkOut 1 8) _ c (check-out-refused c l) (λ e. omega arith)
     (on-refused moveIn _ c (move-in-refused c l) (λ e. omega arith)
     (on checkIn _ c (checked-in c l) (λ d h. last moveIn d (moved-in d 1 h .done))))))
 
@@ -440,8 +441,8 @@ every-call-done =
     on (registration 2 sampleFacts) _ (fresh 64 0 0) (registered 2 sampleFacts (in-ledger 2 (omega arith) (omega arith)) (in-range 1 (omega arith))) (λ b s.
     on recording _ b (recorded b s) (λ c at.
     on moveOut _ c (moved-out c at) (λ d h.
-    on (checkOut 7) _ d (lent-out d h) (λ e l.
+    on (checkOut 1 7) _ d (lent-out d h) (λ e l.
     on checkIn _ e (checked-in e l) (λ f i.
-    on (checkOut 7) _ f (lent-out f i) (λ g m.
+    on (checkOut 1 7) _ f (lent-out f i) (λ g m.
     on (deletion 7) _ g (copy-deleted g m) (λ o j.
     on moveIn _ o (moved-in o 0 j) (λ q x. last (deletion 9) q (holder-deleted q x)))))))))

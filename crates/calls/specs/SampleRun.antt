@@ -6,9 +6,10 @@ use mathlib.Core.List.{List, [], _∷_}
 use Rattle.formats.specs.declared.facts.Facts.{Facts}
 use Rattle.formats.specs.declared.facts.Fillers.{Fillers}
 use Rattle.requests.specs.declared.request.Request.{Request}
-use Rattle.requests.specs.declared.request.Request.the-variants.{Register, Record, CheckOut, CheckIn, MoveOut, MoveIn, Delete}
+use Rattle.requests.specs.declared.request.Request.the-variants.{Register, Record, CheckIn, MoveOut, MoveIn, Delete}
 use Rattle.calls.specs.Buffers.{fresh}
 use Rattle.calls.specs.Perform.{answers}
+use Rattle.calls.specs.Examples.{checkOut}
 
 -- the facts of title 1: CCI 2, trigger 0, one right, one permit, keys 5 and 6
 abbrev pub sampleFacts : Facts
@@ -17,10 +18,7 @@ sampleFacts = record { cci = 2; trigger = 0; rights = 1; permits = 1; «title_ke
 abbrev pub registration : ℕ → Facts → Request
 registration content facts = Register (record { 0 = content }) facts
 
--- check-out of title 1 to an entry, check-in of entry 7 with the filler 9, and move in of title 1 to entry 9 with C_HASH 0
-abbrev pub checkOut : ℕ → Request
-checkOut entry = CheckOut (record { 0 = 1 }) (record { 0 = entry })
-
+-- check-in of entry 7 with the filler 9, and move in of title 1 to entry 9 with C_HASH 0
 abbrev pub checkIn : Request
 checkIn = CheckIn (record { 0 = 7 }) 9
 
@@ -28,7 +26,7 @@ abbrev pub moveIn : Request
 moveIn = MoveIn (record { 0 = 1 }) (record { 0 = 9 }) 0
 
 abbrev pub sampleRequests : List Request
-sampleRequests = registration 1 sampleFacts ∷ checkOut 7 ∷ checkOut 8 ∷ moveIn ∷ checkIn ∷ moveIn ∷ []
+sampleRequests = registration 1 sampleFacts ∷ checkOut 1 7 ∷ checkOut 1 8 ∷ moveIn ∷ checkIn ∷ moveIn ∷ []
 
 -- "formats a ledger of 64 rows and a card, application number 0": the second check-out finds no permit, the first move in a copy
 abbrev pub SampleRun : Type 0
@@ -53,7 +51,7 @@ moveOut = MoveOut (record { 0 = 7 }) 3 nines
 
 abbrev pub everyCall : List Request
 everyCall =
-    registration 2 sampleFacts ∷ recording ∷ moveOut ∷ checkOut 7 ∷ checkIn ∷ checkOut 7 ∷ deletion 7 ∷ moveIn ∷ deletion 9 ∷ []
+    registration 2 sampleFacts ∷ recording ∷ moveOut ∷ checkOut 1 7 ∷ checkIn ∷ checkOut 1 7 ∷ deletion 7 ∷ moveIn ∷ deletion 9 ∷ []
 
 abbrev pub EveryCallDone : Type 0
 EveryCallDone = answers everyCall (fresh 64 0 0) ≡ 0 ∷ 0 ∷ 0 ∷ 0 ∷ 0 ∷ 0 ∷ 0 ∷ 0 ∷ 0 ∷ []
