@@ -14,7 +14,7 @@ use Rattle.formats.specs.Half.{keyOf, idOf, wiped}
 use Rattle.formats.specs.Title.{cciOf, titleHalf}
 use Rattle.formats.specs.Rule.{hashOf, ruleHalf, wipedRule}
 use Rattle.formats.specs.Entry.{kindOf, entryFacts}
-use Rattle.formats.specs.Row.{stateOf, hereRow, plainRow, withPermits}
+use Rattle.formats.specs.Row.{stateOf, hereRow, withPermits}
 use Rattle.formats.specs.declared.facts.Facts.{Facts}
 use Rattle.formats.specs.declared.facts.Fillers.{Fillers}
 use Rattle.formats.specs.declared.entry.EntryKind.{EntryKind}

@@ -1,7 +1,6 @@
 -- Every call ends in bounds: the buffers keep their lengths, and what holds bytes holds bytes.
 -- Assumes nothing.
 use Prim.Native.Nat.{ℕ, _*_}
-use mathlib.Core.Path.{_≡_}
 use mathlib.Core.List.{List}
 use mathlib.Core.Bool.{Bool, true, false, cond}
 use lib.Dec.{lit<}
@@ -21,7 +20,7 @@ use Rattle.formats.proofs.rule.Laws.{rule-bytes, wipedRule-bytes}
 use Rattle.formats.proofs.row.Laws.{here-bytes, plain-bytes, permits-bytes}
 use Rattle.calls.specs.Count.{oneLess, oneMore}
 use Rattle.calls.specs.Buffers.{Buffers, rowAt, titleAt, ruleAt, rowFacts, kindAt, contentAt, factsAt, isFull, withRow}
-use Rattle.calls.specs.Effect.{afterMove, writeEntry, wipeTitle, wipeEntry, effect}
+use Rattle.calls.specs.Effect.{afterMove, writeEntry, effect}
 use Rattle.calls.specs.Perform.{perform, AreBytes, InBounds, Demand1Calls}
 use Rattle.calls.proofs.Refusals.{either-way, call-refused-first}
 use Rattle.calls.proofs.Untouched.{untouched}

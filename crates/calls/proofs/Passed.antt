@@ -21,7 +21,7 @@ use Rattle.formats.specs.declared.row.RowState.the-variants.{Empty, Here, Away,
 use Rattle.formats.proofs.Tests.{split, both}
 use Rattle.formats.proofs.facts.Laws.{Ranges, ranges, in-range}
 use Rattle.formats.proofs.head.Laws.{ledger-head, ledger-passes, titles-head, titles-pass, rules-head, rules-pass}
-use Rattle.calls.specs.Buffers.{Buffers, titleAt, ruleAt, stateAt, rowFacts, hereFacts, kindAt, contentAt, factsAt, isFree, isCopy, isFull, isEmpty, isHere, isAway, one, copies, Within}
+use Rattle.calls.specs.Buffers.{Buffers, stateAt, rowFacts, hereFacts, kindAt, contentAt, factsAt, isFree, isCopy, isFull, isEmpty, isHere, isAway, one, copies, Within}
 use Rattle.calls.specs.Refusal.{Condition, _when_, first, FirstToHold, NoneHolds}
 use Rattle.calls.specs.Conditions.{numbered, factsPass, mayNotMove, conditions}
 use Rattle.calls.specs.Perform.{perform}

@@ -12,7 +12,6 @@ use Rattle.formats.specs.Part.{put}
 use Rattle.formats.specs.Half.{wiped}
 use Rattle.formats.specs.Rule.{wipedRule}
 use Rattle.formats.specs.Row.{withPermits}
-use Rattle.formats.specs.declared.facts.Facts.{Facts}
 use Rattle.formats.specs.declared.facts.Fillers.{Fillers}
 use Rattle.formats.specs.declared.row.RowState.the-variants.{Away}
 use Rattle.requests.specs.declared.request.Request.{Request}

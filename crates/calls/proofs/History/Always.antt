@@ -9,10 +9,7 @@ use mathlib.Core.Bool.{Bool, true, false, cond, _&&_}
 use native.Mathlib.Omega.{arith}
 use native.Mathlib.Decide.{ℕ-discrete}
 use lib.Dec.{leb}
-use lib.ListN.{replicate}
 use borrow.Author.Tests.{leb-true, ne-eqb}
-use Rattle.formats.specs.Half.{idOf}
-use Rattle.formats.specs.Entry.{entryFacts}
 use Rattle.formats.specs.Head.{rowsOf}
 use Rattle.formats.specs.Row.{stateOf}
 use Rattle.formats.specs.declared.facts.Facts.{Facts}
@@ -21,17 +18,16 @@ use Rattle.formats.specs.declared.entry.EntryKind.{EntryKind}
 use Rattle.formats.specs.declared.row.RowState.{RowState}
 use Rattle.formats.specs.declared.row.RowState.the-variants.{Empty, Here, Away, Gone, NoState}
 use Rattle.formats.proofs.Tests.{split}
-use Rattle.formats.proofs.entry.Laws.{kind-zeros}
 use Rattle.formats.proofs.row.Laws.{state-zeros}
-use Rattle.formats.proofs.head.Laws.{fresh-rows, fresh-row, fresh-title, fresh-rule, fresh-ledger-bytes, fresh-titles-bytes, fresh-rules-bytes}
-use Rattle.calls.specs.Buffers.{Buffers, rowAt, ruleAt, stateIn, stateAt, kindAt, contentAt, factsAt, isHere, one, fresh, Within}
+use Rattle.formats.proofs.head.Laws.{fresh-rows, fresh-row}
+use Rattle.calls.specs.Buffers.{Buffers, rowAt, stateIn, stateAt, kindAt, contentAt, factsAt, isHere, one, fresh, Within}
 use Rattle.calls.specs.Perform.{perform, AreBytes}
 use Rattle.calls.specs.History.{Answered, Log, lastAt, Action, actions, times, grant, Run, next, start, run, holders, Holder, in-row, in-entry, TitleClaim, History}
 use Rattle.calls.proofs.Refusals.{unchanged}
 use Rattle.calls.proofs.Passed.{needs-met}
 use Rattle.calls.proofs.InBounds.{in-bounds}
 use Rattle.calls.proofs.Fresh.{fresh-free, fresh-bytes}
-use Rattle.calls.proofs.Views.{placeBy, placeOf, view, full-entry, copies-seen, fulls-seen}
+use Rattle.calls.proofs.Views.{placeBy, view, full-entry, copies-seen, fulls-seen}
 use Rattle.calls.proofs.History.Totals.{total-none}
 use Rattle.calls.proofs.History.Titles.{vacant, copyIn, fullIn, TitleInvariant, Accounts, NotGranted}
 use Rattle.calls.proofs.History.Step.{At, Invariant, kept, copiesIn, fullsIn, holder-found}

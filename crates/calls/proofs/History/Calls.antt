@@ -29,7 +29,7 @@ use Rattle.calls.proofs.Passed.{none-counts, OnCard, on-card}
 use Rattle.calls.proofs.Views.{placeBy, placeOf, view, row-else, place-else, copies-seen}
 use Rattle.calls.proofs.Untouched.{untouched, rule-with-title}
 use Rattle.calls.proofs.Done.{work-is-done}
-use Rattle.calls.proofs.History.Titles.{Place, vacant, eqb-self, TitleStep, step-register, step-record, step-check-out, step-check-in, step-move-out, step-move-in, step-delete-copy, step-delete-holder, step-at}
+use Rattle.calls.proofs.History.Titles.{Place, eqb-self, TitleStep, step-register, step-record, step-check-out, step-check-in, step-move-out, step-move-in, step-delete-copy, step-delete-holder, step-at}
 use Rattle.calls.proofs.History.Step.{Agree, At, Invariant, Change, copiesIn}
 
 -- facts with other permits, and facts after a move

@@ -1,7 +1,7 @@
 -- The laws of requests: each has one written form, reading it back yields the request and exactly its bytes, and nothing past the
 -- first fault counts. Those of arguments are proved once, over any schema.
 -- Assumes nothing.
-use Prim.Native.Nat.{ℕ, zero, suc, _+_, _-_, _^_, _≤_, _<_}
+use Prim.Native.Nat.{ℕ, zero, suc, _+_, _^_, _≤_, _<_}
 use mathlib.Core.Path.{_≡_, refl, sym, ap, ap₂, _∙_}
 use mathlib.Core.List.{List, [], _∷_, _++_, append-assoc}
 use mathlib.Core.Bool.{_&&_}
