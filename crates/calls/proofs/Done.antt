@@ -32,7 +32,7 @@ use Rattle.formats.proofs.rule.Laws.{length-ruleHalf, rule-hash, rule-wiped}
 use Rattle.formats.proofs.entry.Laws.{of-free, of-full, kind-copy, kind-full, copy-wiped, both-wiped, entry-facts-back, entry-facts-range, entry-keys}
 use Rattle.formats.proofs.row.Laws.{here-length, plain-length, state-here, state-plain-away, state-plain-gone, state-permits, here-facts, here-keys}
 use Rattle.calls.specs.Count.{oneLess, oneMore}
-use Rattle.calls.specs.Buffers.{Buffers, lent, rowAt, titleAt, ruleAt, stateAt, rowFacts, hereFacts, kindAt, contentAt, factsAt, isFull, withRow, Within}
+use Rattle.calls.specs.Buffers.{Buffers, buffersOf, rowAt, titleAt, ruleAt, stateAt, rowFacts, hereFacts, kindAt, contentAt, factsAt, isFull, withRow, Within}
 use Rattle.calls.specs.Effect.{afterMove, effect}
 use Rattle.calls.specs.Conditions.{conditions}
 use Rattle.calls.specs.Perform.{refusal, perform, AreBytes}
@@ -53,7 +53,7 @@ module _ (ledger : List ℕ) (c : ℕ) (is : IsRow ledger c) (row : List ℕ) (s
   row-bytes : rowAt (put ledger (24 * c) row) c ≡ row
   row-bytes = slot-same 24 ledger row c (row-inside ledger c is) size
 
-  row-is : (titles rules : List ℕ) (s : RowState) → stateOf row ≡ s → RowIs (lent (put ledger (24 * c) row) titles rules) c s row
+  row-is : (titles rules : List ℕ) (s : RowState) → stateOf row ≡ s → RowIs (buffersOf (put ledger (24 * c) row) titles rules) c s row
   row-is titles rules s reads =
       record {
         reads = row-reads (slots-kept 24 ledger row c (row-inside ledger c is) size (is .from)) is ∙ ap stateOf row-bytes ∙ reads;
@@ -102,12 +102,12 @@ module _ (b : Buffers) where
 
   -- other permits, and no other byte of the row
   permits-become : (c p : ℕ) (titles rules : List ℕ) → HereRow c → p ≤ 15
-      → PermitsBecome b (lent (put (b .ledger) (24 * c) (withPermits (rowAt (b .ledger) c) p)) titles rules) c p
+      → PermitsBecome b (buffersOf (put (b .ledger) (24 * c) (withPermits (rowAt (b .ledger) c) p)) titles rules) c p
   permits-become c p titles rules h small =
       let row = rowAt (b .ledger) c in
       let long = row-length (b .ledger) c (h .is-row) in
       let f = permitting (rowFacts b c) p in
-      let after = lent (put (b .ledger) (24 * c) (withPermits row p)) titles rules in
+      let after = buffersOf (put (b .ledger) (24 * c) (withPermits row p)) titles rules in
       let it = row-is (b .ledger) c (h .is-row) (withPermits row p) (permits-long b c p (h .is-row)) titles rules (Here f) (state-permits row p long (h .reads) small) in
       record {
         here = here-is after c f (it .reads);
@@ -148,12 +148,12 @@ module _ (b : Buffers) (j : ℕ) (o : OnCard b j) where
   rule-is : (p : List ℕ) → length p ≡ 32 → ruleAt (put (b .rules) (32 * j) p) j ≡ p
   rule-is p size = entry-same 32 (b .rules) (o .rules-long) p size j (o .entry)
 
-  title-wiped : (f1 : ℕ) (ledger rules : List ℕ) → WipesTitleKey b j f1 → TitleWiped j f1 b (lent ledger (put (b .titles) (16 * j) (wiped t f1)) rules)
+  title-wiped : (f1 : ℕ) (ledger rules : List ℕ) → WipesTitleKey b j f1 → TitleWiped j f1 b (buffersOf ledger (put (b .titles) (16 * j) (wiped t f1)) rules)
   title-wiped f1 ledger rules other =
       let e = title-is (wiped t f1) (wiped-title-long b j o f1) in
       record { title-half = e; key-gone = λ same. wiped-key-gone (half-wiped t f1) other (ap keyOf (sym e) ∙ same) }
 
-  rule-half-wiped : (f : Fillers) (ledger titles : List ℕ) → WipesStiKey b j (f .f2) → RuleWiped j f b (lent ledger titles (put (b .rules) (32 * j) (wipedRule r f)))
+  rule-half-wiped : (f : Fillers) (ledger titles : List ℕ) → WipesStiKey b j (f .f2) → RuleWiped j f b (buffersOf ledger titles (put (b .rules) (32 * j) (wipedRule r f)))
   rule-half-wiped f ledger titles other =
       let e = rule-is (wipedRule r f) (wiped-rule-long b j o f) in
       record { rule-half = e; key-gone = λ same. wiped-key-gone (rule-wiped r f (rule-long b j o)) other (ap keyOf (sym e) ∙ same) }
@@ -288,10 +288,10 @@ work-is-done k b =
 -- the card's tables are nothing to a register
 pub register-by-ledger : RegisterByLedger
 unfolding perform refusal conditions effect
-register-by-ledger c f ledger titles rules titles′ rules′ = (refl, either-way (eqb (refusal (Register c f) (lent ledger titles rules)) 0))
+register-by-ledger c f ledger titles rules titles′ rules′ = (refl, either-way (eqb (refusal (Register c f) (buffersOf ledger titles rules)) 0))
   where
     either-way : (x : Bool)
-        → (cond x (withRow (c .0) (hereRow f) (lent ledger titles rules)) (lent ledger titles rules)) .ledger
-        ≡ (cond x (withRow (c .0) (hereRow f) (lent ledger titles′ rules′)) (lent ledger titles′ rules′)) .ledger
+        → (cond x (withRow (c .0) (hereRow f) (buffersOf ledger titles rules)) (buffersOf ledger titles rules)) .ledger
+        ≡ (cond x (withRow (c .0) (hereRow f) (buffersOf ledger titles′ rules′)) (buffersOf ledger titles′ rules′)) .ledger
     either-way true = refl
     either-way false = refl

@@ -11,7 +11,7 @@ use borrow.Author.Tests.{eq-eqb, ne-eqb, eqb-false, not-true}
 use Rattle.formats.specs.Refusal.{unless as answer}
 use Rattle.requests.specs.declared.request.Request.{Request}
 use Rattle.requests.specs.declared.request.Request.the-variants.{Register, Record, CheckOut, CheckIn, MoveOut, MoveIn, Delete}
-use Rattle.formats.proofs.Tests.{split, one-holds, refuted}
+use Rattle.formats.proofs.Tests.{split, both, one-holds, refuted}
 use Rattle.calls.specs.Buffers.{Buffers}
 use Rattle.calls.specs.Refusal.{Condition, _when_, _unless_, first, numbersOf, FirstToHold, NoneHolds, RefusedFirst}
 use Rattle.calls.specs.Conditions.{conditions}
@@ -28,6 +28,13 @@ other-than-0 : (n : ℕ) (rest : List Condition) → (not (eqb n 0) && refusing 
 other-than-0 n rest r =
     let (p, q) = split (not (eqb n 0)) (refusing rest) r in
     (eqb-false n 0 (not-true (eqb n 0) p), q)
+
+-- nor does one of two lists of them
+pub both-refuse : (cs ds : List Condition) → refusing cs ≡ true → refusing ds ≡ true → refusing (cs ++ ds) ≡ true
+both-refuse [] ds p q = q
+both-refuse ((n when b) ∷ cs) ds p q =
+    let (some, rest) = split (not (eqb n 0)) (refusing cs) p in
+    both some (both-refuse cs ds rest q)
 
 -- ONE CONDITION AFTER THE OTHER, as code tests them
 

@@ -3,6 +3,7 @@ use Prim.Native.Nat.{ℕ, zero, suc, _+_, _*_, _≤_}
 use mathlib.Core.List.{List}
 use mathlib.Core.Bool.{Bool, true, false, _&&_, cond}
 use lib.Dec.{leb, eqb}
+use denote.Ref.{RefT, now}
 use Rattle.formats.specs.Part.{part, put}
 use Rattle.formats.specs.Half.{keyOf, idOf}
 use Rattle.formats.specs.Rule.{hashOf}
@@ -21,9 +22,12 @@ pub record Buffers : Type 0 where
   pub titles : List ℕ
   pub rules : List ℕ
 
--- the three of them, as a call is lent them
-abbrev pub lent : List ℕ → List ℕ → List ℕ → Buffers
-lent ledger titles rules = record { ledger = ledger; titles = titles; rules = rules }
+abbrev pub buffersOf : List ℕ → List ℕ → List ℕ → Buffers
+buffersOf ledger titles rules = record { ledger = ledger; titles = titles; rules = rules }
+
+-- what stands in the three that a call is lent, at its entry or at its exit
+abbrev pub lent : RefT (List ℕ) → RefT (List ℕ) → RefT (List ℕ) → Buffers
+lent ledger titles rules = buffersOf (now ledger) (now titles) (now rules)
 
 -- "Row c (1 to R) starts at 24 × c"
 abbrev pub rowAt : List ℕ → ℕ → List ℕ

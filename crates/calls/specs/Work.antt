@@ -19,7 +19,7 @@ use Rattle.formats.specs.declared.row.RowState.the-variants.{Here, Away, Gone}
 use Rattle.requests.specs.declared.request.Request.{Request}
 use Rattle.requests.specs.declared.request.Request.the-variants.{Register, Record, CheckOut, CheckIn, MoveOut, MoveIn, Delete}
 use Rattle.calls.specs.Count.{oneLess, oneMore}
-use Rattle.calls.specs.Buffers.{Buffers, lent, rowAt, titleAt, ruleAt, stateAt, rowFacts, kindAt, contentAt, factsAt, titleKey, stiKey, hashAt}
+use Rattle.calls.specs.Buffers.{Buffers, buffersOf, rowAt, titleAt, ruleAt, stateAt, rowFacts, kindAt, contentAt, factsAt, titleKey, stiKey, hashAt}
 use Rattle.calls.specs.Perform.{perform, AreBytes}
 use Rattle.calls.specs.Needs.{AnsweredBy, needsOf, Needs}
 use Rattle.calls.specs.Untouched.{Untouched}
@@ -151,5 +151,5 @@ WorkIsDone = (k : Request) (b : Buffers) → Works k b
 abbrev pub RegisterByLedger : Type 0
 RegisterByLedger =
     (c : ContentId) (f : Facts) (ledger titles rules titles′ rules′ : List ℕ)
-    → (perform (Register c f) (lent ledger titles rules) .answer ≡ perform (Register c f) (lent ledger titles′ rules′) .answer)
-    × (perform (Register c f) (lent ledger titles rules) .buffers .ledger ≡ perform (Register c f) (lent ledger titles′ rules′) .buffers .ledger)
+    → (perform (Register c f) (buffersOf ledger titles rules) .answer ≡ perform (Register c f) (buffersOf ledger titles′ rules′) .answer)
+    × (perform (Register c f) (buffersOf ledger titles rules) .buffers .ledger ≡ perform (Register c f) (buffersOf ledger titles′ rules′) .buffers .ledger)

@@ -18,7 +18,8 @@ fn line(kind: u64, answer: u64) {
 // Serves the stream `s`, with a line for each request. Answers 0 where no byte is left, or the number that stopped reading.
 fn lines(ledger: &mut [u8], titles: &mut [u8], rules: &mut [u8], s: &[u8]) -> u64
     ensures { λ r. ⌜ r ≡ streamOf (now (s .entry)) .stop ⌝ }
-    ensures { λ _. ⌜ lent (now (ledger .exit)) (now (titles .exit)) (now (rules .exit)) ≡ carriedOut (streamOf (now (s .entry)) .requests) (lent (now (ledger .entry)) (now (titles .entry)) (now (rules .entry))) ⌝ }
+    ensures { λ _. ⌜ lent (ledger .exit) (titles .exit) (rules .exit)
+        ≡ carriedOut (streamOf (now (s .entry)) .requests) (lent (ledger .entry) (titles .entry) (rules .entry)) ⌝ }
 {
     let mut rest = s;
     while rest.len() != 0 {

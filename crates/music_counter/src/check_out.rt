@@ -1,20 +1,20 @@
 // 3 check-out: a loan copy of a title that is in the ledger is written to a free entry, and takes one of its permits.
 ghost use mathlib.Core.Path.{_≡_};
-ghost use mathlib.Core.List.{[]};
-ghost use Prim.Native.Nat.{_+_, _*_, _≤_};
-ghost use lib.ListN.{length};
+ghost use mathlib.Core.List.{List, []};
+ghost use Prim.Native.Nat.{ℕ};
 ghost use Rattle.requests.specs.declared.request.Request.the-variants.{CheckOut};
-ghost use Rattle.calls.specs.Buffers.{lent};
+ghost use Rattle.calls.specs.Buffers.{buffersOf, lent};
 ghost use Rattle.calls.specs.Effect.{effect};
-ghost use Rattle.music_counter.specs.Answer.{Answers};
+ghost use Rattle.music_counter.specs.Answer.{Answers, Inside};
 use calls::count;
 use formats::facts::ContentId;
 use formats::facts::EntryNumber;
 use tables::ledger;
 
 fn apply(ledger: &mut [u8], titles: &mut [u8], content: ContentId, entry: EntryNumber)
-    requires { ⌜ (24 * content .0 + 24 ≤ length (now ledger)) × (16 * entry .0 + 16 ≤ length (now titles)) ⌝ }
-    ensures { λ _. ⌜ lent (now (ledger .exit)) (now (titles .exit)) [] ≡ effect (CheckOut content entry) (lent (now (ledger .entry)) (now (titles .entry)) []) ⌝ }
+    requires { ⌜ Inside (CheckOut content entry) (buffersOf (now ledger) (now titles) []) ⌝ }
+    ensures { λ _. ⌜ ((rules : List ℕ) → buffersOf (now (ledger .exit)) (now (titles .exit)) rules
+        ≡ effect (CheckOut content entry) (buffersOf (now (ledger .entry)) (now (titles .entry)) rules)) ⌝ }
 {
     let facts = ledger::here_facts(ledger::state(ledger, content));
     crate::set_permits(ledger, content, count::one_less(facts.permits));
@@ -29,7 +29,9 @@ pub fn check_out(
     content: ContentId,
     entry: EntryNumber,
 ) -> u64
-    ensures { λ r. ⌜ Answers (CheckOut content entry) (lent (now (ledger .entry)) (now (titles .entry)) (now (rules .entry))) r (lent (now (ledger .exit)) (now (titles .exit)) (now (rules .entry))) ⌝ }
+    ensures { λ r. ⌜ Answers (CheckOut content entry)
+        (lent (ledger .entry) (titles .entry) (rules .entry)) r
+        (lent (ledger .exit) (titles .exit) (rules .exit)) ⌝ }
 {
     let w = refusals::check_out::refusal(ledger, titles, rules, content, entry);
     if w != 0 {

@@ -11,6 +11,7 @@ ghost use Rattle.formats.specs.Rule.{ruleHalf, wipedRule};
 ghost use Rattle.formats.specs.Row.{hereRow, plainRow, withPermits};
 ghost use Rattle.calls.specs.Buffers.{lent, rowAt, titleAt, ruleAt};
 ghost use Rattle.calls.specs.Effect.{effect};
+ghost use Rattle.music_counter.specs.Answer.{Inside};
 use formats::facts::ContentId;
 use formats::facts::EntryNumber;
 use formats::facts::Facts;
@@ -97,8 +98,9 @@ fn put_on_card(
     facts: Facts,
     hash: u64,
 )
-    requires { ⌜ (24 * content .0 + 24 ≤ length (now ledger)) × (16 * entry .0 + 16 ≤ length (now titles)) × (32 * entry .0 + 32 ≤ length (now rules)) ⌝ }
-    ensures { λ _. ⌜ lent (now (ledger .exit)) (now (titles .exit)) (now (rules .exit)) ≡ effect (Record content entry facts hash) (lent (now (ledger .entry)) (now (titles .entry)) (now (rules .entry))) ⌝ }
+    requires { ⌜ Inside (Record content entry facts hash) (lent ledger titles rules) ⌝ }
+    ensures { λ _. ⌜ lent (ledger .exit) (titles .exit) (rules .exit)
+        ≡ effect (Record content entry facts hash) (lent (ledger .entry) (titles .entry) (rules .entry)) ⌝ }
 {
     set_plain(ledger, content, row::AWAY);
     write_title(titles, entry, facts.cci, facts.title_key, content);

@@ -1,11 +1,9 @@
 // 6 move in: a title goes from the ledger to a free entry, with one move right less. No copy of it may be out.
 ghost use mathlib.Core.Path.{_≡_};
-ghost use Prim.Native.Nat.{_+_, _*_, _≤_};
-ghost use lib.ListN.{length};
 ghost use Rattle.requests.specs.declared.request.Request.the-variants.{MoveIn};
 ghost use Rattle.calls.specs.Buffers.{lent};
 ghost use Rattle.calls.specs.Effect.{effect};
-ghost use Rattle.music_counter.specs.Answer.{Answers};
+ghost use Rattle.music_counter.specs.Answer.{Answers, Inside};
 use calls::count;
 use formats::facts::ContentId;
 use formats::facts::EntryNumber;
@@ -19,8 +17,9 @@ fn apply(
     entry: EntryNumber,
     hash: u64,
 )
-    requires { ⌜ (24 * content .0 + 24 ≤ length (now ledger)) × (16 * entry .0 + 16 ≤ length (now titles)) × (32 * entry .0 + 32 ≤ length (now rules)) ⌝ }
-    ensures { λ _. ⌜ lent (now (ledger .exit)) (now (titles .exit)) (now (rules .exit)) ≡ effect (MoveIn content entry hash) (lent (now (ledger .entry)) (now (titles .entry)) (now (rules .entry))) ⌝ }
+    requires { ⌜ Inside (MoveIn content entry hash) (lent ledger titles rules) ⌝ }
+    ensures { λ _. ⌜ lent (ledger .exit) (titles .exit) (rules .exit)
+        ≡ effect (MoveIn content entry hash) (lent (ledger .entry) (titles .entry) (rules .entry)) ⌝ }
 {
     let facts = count::after_move(ledger::here_facts(ledger::state(ledger, content)));
     crate::put_on_card(ledger, titles, rules, content, entry, facts, hash);
@@ -35,7 +34,9 @@ pub fn move_in(
     entry: EntryNumber,
     hash: u64,
 ) -> u64
-    ensures { λ r. ⌜ Answers (MoveIn content entry hash) (lent (now (ledger .entry)) (now (titles .entry)) (now (rules .entry))) r (lent (now (ledger .exit)) (now (titles .exit)) (now (rules .exit))) ⌝ }
+    ensures { λ r. ⌜ Answers (MoveIn content entry hash)
+        (lent (ledger .entry) (titles .entry) (rules .entry)) r
+        (lent (ledger .exit) (titles .exit) (rules .exit)) ⌝ }
 {
     let w = refusals::move_in::refusal(ledger, titles, rules, content, entry);
     if w != 0 {

@@ -1,18 +1,15 @@
 // 5 move out: a title goes from its full entry back to the ledger, with one move right less; the entry is wiped.
 ghost use mathlib.Core.Path.{_≡_};
-ghost use Prim.Native.Nat.{_+_, _*_, _≤_};
-ghost use lib.ListN.{length};
+ghost use Prim.Native.Nat.{ℕ};
 ghost use Rattle.requests.specs.declared.request.Request.the-variants.{MoveOut};
-ghost use Rattle.formats.specs.Half.{idOf};
-ghost use Rattle.calls.specs.Buffers.{lent, titleAt};
+ghost use Rattle.calls.specs.Buffers.{lent};
 ghost use Rattle.calls.specs.Effect.{effect};
-ghost use Rattle.music_counter.specs.Answer.{Answers};
+ghost use Rattle.music_counter.specs.Answer.{Answers, Inside};
 use calls::count;
 use formats::facts::EntryNumber;
 use formats::facts::Fillers;
 use tables::card;
 
-// The effect, whatever the hash was.
 fn apply(
     ledger: &mut [u8],
     titles: &mut [u8],
@@ -20,8 +17,9 @@ fn apply(
     entry: EntryNumber,
     fillers: Fillers,
 )
-    requires { ⌜ (24 * idOf (titleAt (now titles) (entry .0)) + 24 ≤ length (now ledger)) × (16 * entry .0 + 16 ≤ length (now titles)) × (32 * entry .0 + 32 ≤ length (now rules)) ⌝ }
-    ensures { λ _. ⌜ lent (now (ledger .exit)) (now (titles .exit)) (now (rules .exit)) ≡ effect (MoveOut entry 0 fillers) (lent (now (ledger .entry)) (now (titles .entry)) (now (rules .entry))) ⌝ }
+    requires { ⌜ Inside (MoveOut entry 0 fillers) (lent ledger titles rules) ⌝ }
+    ensures { λ _. ⌜ ((hash : ℕ) → lent (ledger .exit) (titles .exit) (rules .exit)
+        ≡ effect (MoveOut entry hash fillers) (lent (ledger .entry) (titles .entry) (rules .entry))) ⌝ }
 {
     let content = card::content(titles, entry);
     let facts = card::facts(titles, rules, entry);
@@ -39,7 +37,9 @@ pub fn move_out(
     hash: u64,
     fillers: Fillers,
 ) -> u64
-    ensures { λ r. ⌜ Answers (MoveOut entry hash fillers) (lent (now (ledger .entry)) (now (titles .entry)) (now (rules .entry))) r (lent (now (ledger .exit)) (now (titles .exit)) (now (rules .exit))) ⌝ }
+    ensures { λ r. ⌜ Answers (MoveOut entry hash fillers)
+        (lent (ledger .entry) (titles .entry) (rules .entry)) r
+        (lent (ledger .exit) (titles .exit) (rules .exit)) ⌝ }
 {
     let w = refusals::move_out::refusal(ledger, titles, rules, entry, hash, fillers);
     if w != 0 {

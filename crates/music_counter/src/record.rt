@@ -16,7 +16,9 @@ pub fn record(
     facts: Facts,
     hash: u64,
 ) -> u64
-    ensures { λ r. ⌜ Answers (Record content entry facts hash) (lent (now (ledger .entry)) (now (titles .entry)) (now (rules .entry))) r (lent (now (ledger .exit)) (now (titles .exit)) (now (rules .exit))) ⌝ }
+    ensures { λ r. ⌜ Answers (Record content entry facts hash)
+        (lent (ledger .entry) (titles .entry) (rules .entry)) r
+        (lent (ledger .exit) (titles .exit) (rules .exit)) ⌝ }
 {
     let w = refusals::record::refusal(ledger, titles, rules, content, entry, facts);
     if w != 0 {

@@ -16,7 +16,9 @@ use requests::request::RequestRead;
 
 // Carries out a request that has been read.
 pub fn perform(ledger: &mut [u8], titles: &mut [u8], rules: &mut [u8], request: Request) -> u64
-    ensures { λ r. ⌜ Answers request (lent (now (ledger .entry)) (now (titles .entry)) (now (rules .entry))) r (lent (now (ledger .exit)) (now (titles .exit)) (now (rules .exit))) ⌝ }
+    ensures { λ r. ⌜ Answers request
+        (lent (ledger .entry) (titles .entry) (rules .entry)) r
+        (lent (ledger .exit) (titles .exit) (rules .exit)) ⌝ }
 {
     match request {
         Request::Register { content, facts } => register::register(ledger, content, facts),
@@ -50,7 +52,8 @@ pub fn perform(ledger: &mut [u8], titles: &mut [u8], rules: &mut [u8], request: 
 // number that stopped reading; everything before it is carried out.
 pub fn all(ledger: &mut [u8], titles: &mut [u8], rules: &mut [u8], s: &[u8]) -> u64
     ensures { λ r. ⌜ r ≡ streamOf (now (s .entry)) .stop ⌝ }
-    ensures { λ _. ⌜ lent (now (ledger .exit)) (now (titles .exit)) (now (rules .exit)) ≡ carriedOut (streamOf (now (s .entry)) .requests) (lent (now (ledger .entry)) (now (titles .entry)) (now (rules .entry))) ⌝ }
+    ensures { λ _. ⌜ lent (ledger .exit) (titles .exit) (rules .exit)
+        ≡ carriedOut (streamOf (now (s .entry)) .requests) (lent (ledger .entry) (titles .entry) (rules .entry)) ⌝ }
 {
     let mut rest = s;
     while rest.len() != 0 {

@@ -3,12 +3,23 @@
 use Prim.Native.Nat.{ℕ}
 use mathlib.Core.Path.{_≡_, refl, sym, ap, _∙_}
 use mathlib.Core.Logic.{_≢_}
-use mathlib.Core.List.{List, _++_}
+use mathlib.Core.List.{List, [], _∷_, _++_, append-assoc}
 use mathlib.Core.Bool.{Bool, true, false, not, _&&_, _||_}
 use lib.Dec.{eqb}
 use borrow.Author.Tests.{eq-eqb, ne-eqb}
-use Rattle.calls.specs.Refusal.{Condition, first}
-use Rattle.calls.proofs.Refusals.{refusing, first-stage, next-stage}
+use Rattle.formats.specs.Entry.{kindAnswer}
+use Rattle.formats.specs.Row.{stateAnswer}
+use Rattle.formats.specs.declared.entry.EntryKind.{EntryKind}
+use Rattle.formats.specs.declared.row.RowState.{RowState}
+use Rattle.formats.proofs.entry.Laws.{same-kind}
+use Rattle.formats.proofs.row.Laws.{same-state}
+use Rattle.requests.specs.declared.request.Request.{Request}
+use Rattle.requests.specs.declared.request.Request.the-variants.{Register, Record, CheckOut, CheckIn, MoveOut, MoveIn, Delete}
+use Rattle.calls.specs.Buffers.{Buffers, stateIn}
+use Rattle.calls.specs.Refusal.{first}
+use Rattle.calls.specs.Conditions.{argumentConditions, headConditions, stateConditions, conditions}
+use Rattle.calls.specs.Perform.{refusal}
+use Rattle.calls.proofs.Refusals.{refusing, both-refuse, first-stage, next-stage}
 
 -- a test in code that says what a definition's test says; `!` of it in code likewise
 pub told : {r b t : Bool} → r ≡ b → r ≡ t → b ≡ t
@@ -17,13 +28,70 @@ told e q = sym e ∙ q
 pub denied : {r b t : Bool} → r ≡ b → not r ≡ t → not b ≡ t
 denied e q = ap not (sym e) ∙ q
 
--- a stage refuses; or it does not, and what comes after it decides
-module _ (cs rest : List Condition) {w : ℕ} (e : w ≡ first cs) where
-  pub by-first : w ≢ 0 → w ≡ first (cs ++ rest)
-  by-first some = first-stage cs rest e some
+-- what was asked of an entry's kind as it was read; of a row's state as it was read; and of the row of a title half's ID
+module _ {A : Type 0} {r : A} where
+  pub of-kind : (is : EntryKind → A) {k k′ : EntryKind} → r ≡ is k → kindAnswer k ≡ kindAnswer k′ → r ≡ is k′
+  of-kind is e read = e ∙ ap is (same-kind read)
 
-  pub past-first : {n : ℕ} → refusing cs ≡ true → w ≡ 0 → n ≡ first rest → n ≡ first (cs ++ rest)
-  past-first r zero q = next-stage cs rest r (sym e ∙ zero) q
+  pub of-row : (is : RowState → A) {s s′ : RowState} → r ≡ is s → stateAnswer s ≡ stateAnswer s′ → r ≡ is s′
+  of-row is e read = e ∙ ap is (same-state read)
+
+  pub of-its-row : (is : RowState → A) (l : List ℕ) {s : RowState} {i c : ℕ} → r ≡ is s → stateAnswer s ≡ stateAnswer (stateIn l i) → i ≡ c → r ≡ is (stateIn l c)
+  of-its-row is l e read id = of-row is e read ∙ ap (λ (n : ℕ). is (stateIn l n)) id
+
+-- A CALL'S REFUSAL, stage by stage: its arguments, the heads of what it is lent, and what stands there
+
+argument-numbers : (k : Request) → refusing (argumentConditions k) ≡ true
+argument-numbers (Register c f) = refl
+argument-numbers (Record c j f h) = refl
+argument-numbers (CheckOut c j) = refl
+argument-numbers (CheckIn j f1) = refl
+argument-numbers (MoveOut j h f) = refl
+argument-numbers (MoveIn c j h) = refl
+argument-numbers (Delete j f) = refl
+
+head-numbers : (k : Request) (b : Buffers) → refusing (headConditions k b) ≡ true
+head-numbers (Register c f) b = refl
+head-numbers (Record c j f h) b = refl
+head-numbers (CheckOut c j) b = refl
+head-numbers (CheckIn j f1) b = refl
+head-numbers (MoveOut j h f) b = refl
+head-numbers (MoveIn c j h) b = refl
+head-numbers (Delete j f) b = refl
+
+-- its arguments refuse
+module _ (k : Request) (b : Buffers) {w : ℕ} (e : w ≡ first (argumentConditions k)) where
+  pub by-arguments : w ≢ 0 → w ≡ refusal k b
+  unfolding refusal conditions
+  by-arguments some = first-stage (argumentConditions k) (headConditions k b ++ stateConditions k b) e some
+
+  -- they do not, and the heads refuse
+  module _ (zero : w ≡ 0) {v : ℕ} (h : v ≡ first (headConditions k b)) where
+    past-arguments : {n : ℕ} → n ≡ first (headConditions k b ++ stateConditions k b) → n ≡ refusal k b
+    unfolding refusal conditions
+    past-arguments q = next-stage (argumentConditions k) (headConditions k b ++ stateConditions k b) (argument-numbers k) (sym e ∙ zero) q
+
+    pub by-heads : v ≢ 0 → v ≡ refusal k b
+    by-heads some = past-arguments (first-stage (headConditions k b) (stateConditions k b) h some)
+
+    -- they do not either, and the state decides
+    pub by-state : {n : ℕ} → v ≡ 0 → n ≡ first (stateConditions k b) → n ≡ refusal k b
+    by-state none q = past-arguments (next-stage (headConditions k b) (stateConditions k b) (head-numbers k b) (sym h ∙ none) q)
+
+-- arguments and heads in one
+module _ (k : Request) (b : Buffers) {w : ℕ} (e : w ≡ first (argumentConditions k ++ headConditions k b)) where
+  apart : first ((argumentConditions k ++ headConditions k b) ++ stateConditions k b) ≡ refusal k b
+  unfolding refusal conditions
+  apart = ap first (append-assoc (argumentConditions k) (headConditions k b) (stateConditions k b))
+
+  pub refused-before : w ≢ 0 → w ≡ refusal k b
+  refused-before some = first-stage (argumentConditions k ++ headConditions k b) (stateConditions k b) e some ∙ apart
+
+  pub past-before : {n : ℕ} → w ≡ 0 → n ≡ first (stateConditions k b) → n ≡ refusal k b
+  past-before zero q =
+      next-stage (argumentConditions k ++ headConditions k b) (stateConditions k b)
+      (both-refuse (argumentConditions k) (headConditions k b) (argument-numbers k) (head-numbers k b)) (sym e ∙ zero) q
+      ∙ apart
 
 -- a number that is tested for a value
 module _ {x y n : ℕ} (e : x ≡ y) where

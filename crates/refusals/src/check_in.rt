@@ -11,7 +11,8 @@ use tables::card;
 use tables::ledger;
 
 fn state(ledger: &[u8], titles: &[u8], rules: &[u8], entry: EntryNumber, f1: u64) -> u64
-    ensures { λ r. ⌜ r ≡ first (stateConditions (CheckIn entry f1) (lent (now (ledger .entry)) (now (titles .entry)) (now (rules .entry)))) ⌝ }
+    ensures { λ r. ⌜ r ≡ first (stateConditions (CheckIn entry f1)
+        (lent (ledger .entry) (titles .entry) (rules .entry))) ⌝ }
 {
     let kind = card::kind(titles, rules, entry);
     if !card::is_copy(kind) {
@@ -33,7 +34,8 @@ fn state(ledger: &[u8], titles: &[u8], rules: &[u8], entry: EntryNumber, f1: u64
 }
 
 pub fn refusal(ledger: &[u8], titles: &[u8], rules: &[u8], entry: EntryNumber, f1: u64) -> u64
-    ensures { λ r. ⌜ r ≡ refusal (CheckIn entry f1) (lent (now (ledger .entry)) (now (titles .entry)) (now (rules .entry))) ⌝ }
+    ensures { λ r. ⌜ r ≡ refusal (CheckIn entry f1)
+        (lent (ledger .entry) (titles .entry) (rules .entry)) ⌝ }
 {
     let w = crate::before_entry(ledger, titles, rules, entry);
     if w != 0 {

@@ -12,7 +12,8 @@ use tables::card;
 use tables::ledger;
 
 fn state(ledger: &[u8], titles: &[u8], rules: &[u8], content: ContentId, entry: EntryNumber) -> u64
-    ensures { λ r. ⌜ r ≡ first (stateConditions (CheckOut content entry) (lent (now (ledger .entry)) (now (titles .entry)) (now (rules .entry)))) ⌝ }
+    ensures { λ r. ⌜ r ≡ first (stateConditions (CheckOut content entry)
+        (lent (ledger .entry) (titles .entry) (rules .entry))) ⌝ }
 {
     let kind = card::kind(titles, rules, entry);
     if !card::is_free(kind) {
@@ -36,7 +37,8 @@ pub fn refusal(
     content: ContentId,
     entry: EntryNumber,
 ) -> u64
-    ensures { λ r. ⌜ r ≡ refusal (CheckOut content entry) (lent (now (ledger .entry)) (now (titles .entry)) (now (rules .entry))) ⌝ }
+    ensures { λ r. ⌜ r ≡ refusal (CheckOut content entry)
+        (lent (ledger .entry) (titles .entry) (rules .entry)) ⌝ }
 {
     let w = crate::before_both(ledger, titles, rules, content, entry);
     if w != 0 {

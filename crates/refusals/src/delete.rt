@@ -13,7 +13,8 @@ use tables::ledger;
 
 // Of a copy the row is not looked at, and only the title half is to be wiped.
 fn state(ledger: &[u8], titles: &[u8], rules: &[u8], entry: EntryNumber, fillers: Fillers) -> u64
-    ensures { λ r. ⌜ r ≡ first (stateConditions (Delete entry fillers) (lent (now (ledger .entry)) (now (titles .entry)) (now (rules .entry)))) ⌝ }
+    ensures { λ r. ⌜ r ≡ first (stateConditions (Delete entry fillers)
+        (lent (ledger .entry) (titles .entry) (rules .entry))) ⌝ }
 {
     let kind = card::kind(titles, rules, entry);
     if !card::is_full(kind) {
@@ -44,7 +45,8 @@ pub fn refusal(
     entry: EntryNumber,
     fillers: Fillers,
 ) -> u64
-    ensures { λ r. ⌜ r ≡ refusal (Delete entry fillers) (lent (now (ledger .entry)) (now (titles .entry)) (now (rules .entry))) ⌝ }
+    ensures { λ r. ⌜ r ≡ refusal (Delete entry fillers)
+        (lent (ledger .entry) (titles .entry) (rules .entry)) ⌝ }
 {
     let w = crate::before_entry(ledger, titles, rules, entry);
     if w != 0 {

@@ -20,7 +20,8 @@ pub mod register;
 
 // What a call that names an entry tests before it looks there: 5, then 7, 8 and 9.
 fn before_entry(ledger: &[u8], titles: &[u8], rules: &[u8], entry: EntryNumber) -> u64
-    ensures { λ r. ⌜ r ≡ first (entryConditions (entry .0) (lent (now (ledger .entry)) (now (titles .entry)) (now (rules .entry)))) ⌝ }
+    ensures { λ r. ⌜ r ≡ first (entryConditions (entry .0)
+        (lent (ledger .entry) (titles .entry) (rules .entry))) ⌝ }
 {
     if !argument::is_numbered(entry.0) {
         return refusal::ENTRY_NUMBER;
@@ -36,7 +37,8 @@ fn before_both(
     content: ContentId,
     entry: EntryNumber,
 ) -> u64
-    ensures { λ r. ⌜ r ≡ first (titleConditions (content .0) (entry .0) (lent (now (ledger .entry)) (now (titles .entry)) (now (rules .entry)))) ⌝ }
+    ensures { λ r. ⌜ r ≡ first (titleConditions (content .0) (entry .0)
+        (lent (ledger .entry) (titles .entry) (rules .entry))) ⌝ }
 {
     if !argument::is_numbered(content.0) {
         return refusal::CONTENT_ID;

@@ -1,5 +1,6 @@
 // The refusals of move in: 4, 5, 7 to 12, and 14. Trigger and rights are those of the row; the hash is not tested.
 ghost use mathlib.Core.Path.{_≡_};
+ghost use Prim.Native.Nat.{ℕ};
 ghost use Rattle.requests.specs.declared.request.Request.the-variants.{MoveIn};
 ghost use Rattle.calls.specs.Buffers.{lent};
 ghost use Rattle.calls.specs.Refusal.{first};
@@ -15,7 +16,8 @@ use tables::ledger;
 
 // The card is searched for a copy last, when nothing else refuses.
 fn state(ledger: &[u8], titles: &[u8], rules: &[u8], content: ContentId, entry: EntryNumber) -> u64
-    ensures { λ r. ⌜ r ≡ first (stateConditions (MoveIn content entry 0) (lent (now (ledger .entry)) (now (titles .entry)) (now (rules .entry)))) ⌝ }
+    ensures { λ r. ⌜ ((hash : ℕ) → r ≡ first (stateConditions (MoveIn content entry hash)
+        (lent (ledger .entry) (titles .entry) (rules .entry)))) ⌝ }
 {
     let kind = card::kind(titles, rules, entry);
     if !card::is_free(kind) {
@@ -41,7 +43,8 @@ pub fn refusal(
     content: ContentId,
     entry: EntryNumber,
 ) -> u64
-    ensures { λ r. ⌜ r ≡ refusal (MoveIn content entry 0) (lent (now (ledger .entry)) (now (titles .entry)) (now (rules .entry))) ⌝ }
+    ensures { λ r. ⌜ ((hash : ℕ) → r ≡ refusal (MoveIn content entry hash)
+        (lent (ledger .entry) (titles .entry) (rules .entry))) ⌝ }
 {
     let w = crate::before_both(ledger, titles, rules, content, entry);
     if w != 0 {

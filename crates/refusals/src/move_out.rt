@@ -19,7 +19,8 @@ fn state(
     hash: u64,
     fillers: Fillers,
 ) -> u64
-    ensures { λ r. ⌜ r ≡ first (stateConditions (MoveOut entry hash fillers) (lent (now (ledger .entry)) (now (titles .entry)) (now (rules .entry)))) ⌝ }
+    ensures { λ r. ⌜ r ≡ first (stateConditions (MoveOut entry hash fillers)
+        (lent (ledger .entry) (titles .entry) (rules .entry))) ⌝ }
 {
     if !card::is_full(card::kind(titles, rules, entry)) {
         return refusal::KIND_OF_ENTRY;
@@ -50,7 +51,8 @@ pub fn refusal(
     hash: u64,
     fillers: Fillers,
 ) -> u64
-    ensures { λ r. ⌜ r ≡ refusal (MoveOut entry hash fillers) (lent (now (ledger .entry)) (now (titles .entry)) (now (rules .entry))) ⌝ }
+    ensures { λ r. ⌜ r ≡ refusal (MoveOut entry hash fillers)
+        (lent (ledger .entry) (titles .entry) (rules .entry)) ⌝ }
 {
     let w = crate::before_entry(ledger, titles, rules, entry);
     if w != 0 {

@@ -1,9 +1,11 @@
 // The refusals of record: 4 to 11. The hash is not tested.
 ghost use mathlib.Core.Path.{_≡_};
+ghost use Prim.Native.Nat.{ℕ};
+ghost use Rattle.formats.specs.declared.facts.Facts.{Facts};
 ghost use Rattle.requests.specs.declared.request.Request.the-variants.{Record};
-ghost use Rattle.calls.specs.Buffers.{lent, noFacts};
+ghost use Rattle.calls.specs.Buffers.{lent};
 ghost use Rattle.calls.specs.Refusal.{first};
-ghost use Rattle.calls.specs.Conditions.{stateConditions};
+ghost use Rattle.calls.specs.Conditions.{argumentConditions, stateConditions};
 ghost use Rattle.calls.specs.Perform.{refusal};
 use calls::argument;
 use formats::facts::ContentId;
@@ -14,8 +16,24 @@ use tables::card;
 use tables::heads;
 use tables::ledger;
 
+fn arguments(content: ContentId, entry: EntryNumber, facts: Facts) -> u64
+    ensures { λ r. ⌜ ((hash : ℕ) → r ≡ first (argumentConditions (Record content entry facts hash))) ⌝ }
+{
+    if !argument::is_numbered(content.0) {
+        return refusal::CONTENT_ID;
+    }
+    if !argument::is_numbered(entry.0) {
+        return refusal::ENTRY_NUMBER;
+    }
+    if !argument::are_facts(facts) {
+        return refusal::FACTS;
+    }
+    0
+}
+
 fn state(ledger: &[u8], titles: &[u8], rules: &[u8], content: ContentId, entry: EntryNumber) -> u64
-    ensures { λ r. ⌜ r ≡ first (stateConditions (Record content entry noFacts 0) (lent (now (ledger .entry)) (now (titles .entry)) (now (rules .entry)))) ⌝ }
+    ensures { λ r. ⌜ ((facts : Facts) (hash : ℕ) → r ≡ first (stateConditions (Record content entry facts hash)
+        (lent (ledger .entry) (titles .entry) (rules .entry)))) ⌝ }
 {
     let kind = card::kind(titles, rules, entry);
     if !card::is_free(kind) {
@@ -35,16 +53,12 @@ pub fn refusal(
     entry: EntryNumber,
     facts: Facts,
 ) -> u64
-    ensures { λ r. ⌜ r ≡ refusal (Record content entry facts 0) (lent (now (ledger .entry)) (now (titles .entry)) (now (rules .entry))) ⌝ }
+    ensures { λ r. ⌜ ((hash : ℕ) → r ≡ refusal (Record content entry facts hash)
+        (lent (ledger .entry) (titles .entry) (rules .entry))) ⌝ }
 {
-    if !argument::is_numbered(content.0) {
-        return refusal::CONTENT_ID;
-    }
-    if !argument::is_numbered(entry.0) {
-        return refusal::ENTRY_NUMBER;
-    }
-    if !argument::are_facts(facts) {
-        return refusal::FACTS;
+    let w = arguments(content, entry, facts);
+    if w != 0 {
+        return w;
     }
     let w = heads::check(ledger, titles, rules);
     if w != 0 {

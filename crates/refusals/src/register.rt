@@ -1,5 +1,8 @@
 // The refusals of register: 4, 6, 7 and 11. It is lent the ledger only.
+ghost use mathlib.Core.Path.{_≡_};
 ghost use Rattle.requests.specs.declared.request.Request.the-variants.{Register};
+ghost use Rattle.calls.specs.Refusal.{first};
+ghost use Rattle.calls.specs.Conditions.{argumentConditions};
 ghost use Rattle.refusals.specs.Ledger.{RefusedByLedger};
 use calls::argument;
 use formats::facts::ContentId;
@@ -8,14 +11,24 @@ use formats::head;
 use formats::refusal;
 use tables::ledger;
 
-pub fn refusal(ledger: &[u8], content: ContentId, facts: Facts) -> u64
-    ensures { λ r. ⌜ RefusedByLedger (Register content facts) (now (ledger .entry)) r ⌝ }
+fn arguments(content: ContentId, facts: Facts) -> u64
+    ensures { λ r. ⌜ r ≡ first (argumentConditions (Register content facts)) ⌝ }
 {
     if !argument::is_numbered(content.0) {
         return refusal::CONTENT_ID;
     }
     if !argument::are_facts(facts) {
         return refusal::FACTS;
+    }
+    0
+}
+
+pub fn refusal(ledger: &[u8], content: ContentId, facts: Facts) -> u64
+    ensures { λ r. ⌜ RefusedByLedger (Register content facts) (now (ledger .entry)) r ⌝ }
+{
+    let w = arguments(content, facts);
+    if w != 0 {
+        return w;
     }
     let w = head::check_ledger(ledger);
     if w != 0 {

@@ -7,7 +7,8 @@ use formats::head;
 
 // 0 where they are right, else 7, 8 or 9.
 pub fn check(ledger: &[u8], titles: &[u8], rules: &[u8]) -> u64
-    ensures { λ r. ⌜ r ≡ first (allHeadConditions (lent (now (ledger .entry)) (now (titles .entry)) (now (rules .entry)))) ⌝ }
+    ensures { λ r. ⌜ r ≡ first (allHeadConditions
+        (lent (ledger .entry) (titles .entry) (rules .entry))) ⌝ }
 {
     let w = head::check_ledger(ledger);
     if w != 0 {

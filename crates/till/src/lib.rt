@@ -90,7 +90,9 @@ pub extern "C" fn counter_record(
     sti_key: u64,
     hash: u64,
 ) -> u64
-    ensures { λ r. ⌜ Answers (Record (title content) (place entry) (facts cci trigger rights permits «title_key» «sti_key») hash) (lent (now (ledger .entry)) (now (titles .entry)) (now (rules .entry))) r (lent (now (ledger .exit)) (now (titles .exit)) (now (rules .exit))) ⌝ }
+    ensures { λ r. ⌜ Answers (Record (title content) (place entry) (facts cci trigger rights permits «title_key» «sti_key») hash)
+        (lent (ledger .entry) (titles .entry) (rules .entry)) r
+        (lent (ledger .exit) (titles .exit) (rules .exit)) ⌝ }
 {
     let facts = Facts {
         cci,
@@ -120,7 +122,9 @@ pub extern "C" fn counter_check_out(
     content: u64,
     entry: u64,
 ) -> u64
-    ensures { λ r. ⌜ Answers (CheckOut (title content) (place entry)) (lent (now (ledger .entry)) (now (titles .entry)) (now (rules .entry))) r (lent (now (ledger .exit)) (now (titles .exit)) (now (rules .entry))) ⌝ }
+    ensures { λ r. ⌜ Answers (CheckOut (title content) (place entry))
+        (lent (ledger .entry) (titles .entry) (rules .entry)) r
+        (lent (ledger .exit) (titles .exit) (rules .exit)) ⌝ }
 {
     check_out::check_out(
         ledger,
@@ -140,7 +144,9 @@ pub extern "C" fn counter_check_in(
     entry: u64,
     f1: u64,
 ) -> u64
-    ensures { λ r. ⌜ Answers (CheckIn (place entry) f1) (lent (now (ledger .entry)) (now (titles .entry)) (now (rules .entry))) r (lent (now (ledger .exit)) (now (titles .exit)) (now (rules .entry))) ⌝ }
+    ensures { λ r. ⌜ Answers (CheckIn (place entry) f1)
+        (lent (ledger .entry) (titles .entry) (rules .entry)) r
+        (lent (ledger .exit) (titles .exit) (rules .exit)) ⌝ }
 {
     check_in::check_in(ledger, titles, rules, EntryNumber(entry), f1)
 }
@@ -158,7 +164,9 @@ pub extern "C" fn counter_move_out(
     f3: u64,
     f4: u64,
 ) -> u64
-    ensures { λ r. ⌜ Answers (MoveOut (place entry) hash (fillers f1 f2 f3 f4)) (lent (now (ledger .entry)) (now (titles .entry)) (now (rules .entry))) r (lent (now (ledger .exit)) (now (titles .exit)) (now (rules .exit))) ⌝ }
+    ensures { λ r. ⌜ Answers (MoveOut (place entry) hash (fillers f1 f2 f3 f4))
+        (lent (ledger .entry) (titles .entry) (rules .entry)) r
+        (lent (ledger .exit) (titles .exit) (rules .exit)) ⌝ }
 {
     let fillers = Fillers { f1, f2, f3, f4 };
     move_out::move_out(ledger, titles, rules, EntryNumber(entry), hash, fillers)
@@ -174,7 +182,9 @@ pub extern "C" fn counter_move_in(
     entry: u64,
     hash: u64,
 ) -> u64
-    ensures { λ r. ⌜ Answers (MoveIn (title content) (place entry) hash) (lent (now (ledger .entry)) (now (titles .entry)) (now (rules .entry))) r (lent (now (ledger .exit)) (now (titles .exit)) (now (rules .exit))) ⌝ }
+    ensures { λ r. ⌜ Answers (MoveIn (title content) (place entry) hash)
+        (lent (ledger .entry) (titles .entry) (rules .entry)) r
+        (lent (ledger .exit) (titles .exit) (rules .exit)) ⌝ }
 {
     move_in::move_in(
         ledger,
@@ -198,7 +208,9 @@ pub extern "C" fn counter_delete(
     f3: u64,
     f4: u64,
 ) -> u64
-    ensures { λ r. ⌜ Answers (Delete (place entry) (fillers f1 f2 f3 f4)) (lent (now (ledger .entry)) (now (titles .entry)) (now (rules .entry))) r (lent (now (ledger .exit)) (now (titles .exit)) (now (rules .exit))) ⌝ }
+    ensures { λ r. ⌜ Answers (Delete (place entry) (fillers f1 f2 f3 f4))
+        (lent (ledger .entry) (titles .entry) (rules .entry)) r
+        (lent (ledger .exit) (titles .exit) (rules .exit)) ⌝ }
 {
     let fillers = Fillers { f1, f2, f3, f4 };
     delete::delete(ledger, titles, rules, EntryNumber(entry), fillers)

@@ -10,27 +10,6 @@ use Rattle.music_counter.proofs.Places.{placed}
 use Rattle.music_counter.proofs.set_here.Statement.{statement}
 use Rattle.music_counter.proofs.set_here.Tie as tie
 
-mul-a : tie.Need-mul-a
-mul-a c = search needs
-
-add-write-here : tie.Need-add-write-here
-add-write-here c = search needs
-
-sub-write-here : tie.Need-sub-write-here
-sub-write-here c = search needs
-
-part-write-here-start : tie.Need-part-write-here-start
-part-write-here-start c = search needs
-
-part-write-here-end : tie.Need-part-write-here-end
-part-write-here-end c = search needs
-
-write-here-requires : tie.Need-write-here-requires
-write-here-requires c κs = search needs
-
-same-length : tie.Need-same-length
-same-length c = search needs
-
 returns : tie.Need-returns
 returns c =
     let a = c .before .before .before .before .before .args in
@@ -39,12 +18,5 @@ returns c =
 pub set-here-spec : {M : Type 1} → statement M
 set-here-spec =
     tie.close
-    (tie.spec
-    mul-a
-    add-write-here
-    sub-write-here
-    part-write-here-start
-    part-write-here-end
-    write-here-requires
-    same-length
-    returns)
+    (tie.spec (λ c. search needs) (λ c. search needs) (λ c. search needs) (λ c. search needs) (λ c. search needs)
+    (λ c κs. search needs) (λ c. search needs) returns)

@@ -12,27 +12,6 @@ use Rattle.music_counter.proofs.Places.{placed}
 use Rattle.music_counter.proofs.set_permits.Statement.{statement}
 use Rattle.music_counter.proofs.set_permits.Tie as tie
 
-mul-a : tie.Need-mul-a
-mul-a c = search needs
-
-add-write-permits : tie.Need-add-write-permits
-add-write-permits c = search needs
-
-sub-write-permits : tie.Need-sub-write-permits
-sub-write-permits c = search needs
-
-part-write-permits-start : tie.Need-part-write-permits-start
-part-write-permits-start c = search needs
-
-part-write-permits-end : tie.Need-part-write-permits-end
-part-write-permits-end c = search needs
-
-write-permits-requires : tie.Need-write-permits-requires
-write-permits-requires c κs = search needs
-
-same-length : tie.Need-same-length
-same-length c = search needs
-
 returns : tie.Need-returns
 returns c =
     let a = c .before .before .before .before .before .args in
@@ -43,12 +22,5 @@ returns c =
 pub set-permits-spec : {M : Type 1} → statement M
 set-permits-spec =
     tie.close
-    (tie.spec
-    mul-a
-    add-write-permits
-    sub-write-permits
-    part-write-permits-start
-    part-write-permits-end
-    write-permits-requires
-    same-length
-    returns)
+    (tie.spec (λ c. search needs) (λ c. search needs) (λ c. search needs) (λ c. search needs) (λ c. search needs)
+    (λ c κs. search needs) (λ c. search needs) returns)

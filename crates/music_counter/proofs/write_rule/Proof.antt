@@ -10,27 +10,6 @@ use Rattle.music_counter.proofs.Places.{placed}
 use Rattle.music_counter.proofs.write_rule.Statement.{statement}
 use Rattle.music_counter.proofs.write_rule.Tie as tie
 
-mul-a : tie.Need-mul-a
-mul-a c = search needs
-
-add-write : tie.Need-add-write
-add-write c = search needs
-
-sub-write : tie.Need-sub-write
-sub-write c = search needs
-
-part-write-start : tie.Need-part-write-start
-part-write-start c = search needs
-
-part-write-end : tie.Need-part-write-end
-part-write-end c = search needs
-
-write-requires : tie.Need-write-requires
-write-requires c κs = search needs
-
-same-length : tie.Need-same-length
-same-length c = search needs
-
 returns : tie.Need-returns
 returns c =
     let a = c .before .before .before .before .before .args in
@@ -39,12 +18,5 @@ returns c =
 pub write-rule-spec : {M : Type 1} → statement M
 write-rule-spec =
     tie.close
-    (tie.spec
-    mul-a
-    add-write
-    sub-write
-    part-write-start
-    part-write-end
-    write-requires
-    same-length
-    returns)
+    (tie.spec (λ c. search needs) (λ c. search needs) (λ c. search needs) (λ c. search needs) (λ c. search needs)
+    (λ c κs. search needs) (λ c. search needs) returns)

@@ -6,18 +6,13 @@ use Rattle.refusals.proofs.Stages.{denied}
 use Rattle.refusals.proofs.before_both.Statement.{statement}
 use Rattle.refusals.proofs.before_both.Tie as tie
 
-is-numbered-requires : tie.Need-is-numbered-requires
-is-numbered-requires c κs = search needs
-
 returns : tie.Need-returns
 returns c = hit 4 _ _ (denied (c .before .is-numbered .ensures) (c .if1 .taken))
-
-before-entry-requires : tie.Need-before-entry-requires
-before-entry-requires c κs = search needs
 
 returns-2 : tie.Need-returns-2
 returns-2 c = skip 4 _ _ _ (denied (c .before .before .is-numbered .ensures) (c .before .if1 .left)) (c .before-entry .ensures)
 
 pub before-both-spec : {M : Type 1} → statement M
 before-both-spec =
-    tie.close (tie.spec is-numbered-requires returns before-entry-requires returns-2)
+    tie.close
+    (tie.spec (λ c κs. search needs) returns (λ c κs. search needs) returns-2)

@@ -5,15 +5,6 @@ use Rattle.till.proofs.Tally.{by-case}
 use Rattle.till.proofs.counter_tally.Statement.{statement}
 use Rattle.till.proofs.counter_tally.Tie as tie
 
-tally-requires : tie.Need-tally-requires
-tally-requires c κs = search needs
-
-enum-known-found : tie.Need-enum-known-found
-enum-known-found c = search needs
-
-enum-known-found-2 : tie.Need-enum-known-found-2
-enum-known-found-2 c = search needs
-
 returns : tie.Need-returns
 returns c = by-case _ (c .before .found .given .1) (c .before .before .before .tally .ensures)
 
@@ -21,4 +12,6 @@ returns-2 : tie.Need-returns-2
 returns-2 c = by-case _ (c .before .found2 .given .1) (c .before .before .before .tally .ensures)
 
 pub counter-tally-spec : {M : Type 1} → statement M
-counter-tally-spec = tie.close (tie.spec tally-requires enum-known-found enum-known-found-2 returns returns-2)
+counter-tally-spec =
+    tie.close
+    (tie.spec (λ c κs. search needs) (λ c. search needs) (λ c. search needs) returns returns-2)

@@ -12,30 +12,12 @@ returns c = below _ _ _ _ (c .if1 .taken)
 returns-2 : tie.Need-returns-2
 returns-2 c = above _ _ _ _ (c .before .if1 .left) (c .if2 .taken)
 
-request-of-requires : tie.Need-request-of-requires
-request-of-requires c κs = search needs
-
-write-requires : tie.Need-write-requires
-write-requires c κs = search needs
-
-enum-known-written : tie.Need-enum-known-written
-enum-known-written c = search needs
-
-enum-known-written-2 : tie.Need-enum-known-written-2
-enum-known-written-2 c = search needs
-
-same-length : tie.Need-same-length
-same-length c = search needs
-
 returns-3 : tie.Need-returns-3
 returns-3 c =
     let w = c .before .before .before .before .before in
     let o = w .before .before in
     let e = o .before .before in
     wrote _ _ _ _ (e .before .if1 .left) (e .if2 .left) (same-call (o .request-of .ensures)) (w .write .ensures .0) (w .write .ensures .1) (c .before .written .given .1)
-
-same-length-2 : tie.Need-same-length-2
-same-length-2 c = search needs
 
 returns-4 : tie.Need-returns-4
 returns-4 c =
@@ -47,14 +29,5 @@ returns-4 c =
 pub counter-write-request-spec : {M : Type 1} → statement M
 counter-write-request-spec =
     tie.close
-    (tie.spec
-    returns
-    returns-2
-    request-of-requires
-    write-requires
-    enum-known-written
-    enum-known-written-2
-    same-length
-    returns-3
-    same-length-2
-    returns-4)
+    (tie.spec returns returns-2 (λ c κs. search needs) (λ c κs. search needs) (λ c. search needs) (λ c. search needs)
+    (λ c. search needs) returns-3 (λ c. search needs) returns-4)

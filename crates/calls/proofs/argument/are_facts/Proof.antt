@@ -8,9 +8,6 @@ use borrow.Author.Needs.{needs}
 use Rattle.calls.proofs.argument.are_facts.Statement.{statement}
 use Rattle.calls.proofs.argument.are_facts.Tie as tie
 
-in-range-requires : tie.Need-in-range-requires
-in-range-requires c κs = search needs
-
 returns : tie.Need-returns
 returns c = simp (sym (c .before .in-range .ensures) ∙ not-true _ (c .if1 .taken))
 
@@ -25,4 +22,6 @@ returns-3 c =
     simp (sym (x .before .in-range .ensures) ∙ not-false _ (x .if1 .left), lt-ltb (x .before .before .args .facts .«title_key») (2 ^ 56) (omega arith))
 
 pub are-facts-spec : {M : Type 1} → statement M
-are-facts-spec = tie.close (tie.spec in-range-requires returns returns-2 returns-3)
+are-facts-spec =
+    tie.close
+    (tie.spec (λ c κs. search needs) returns returns-2 returns-3)

@@ -6,11 +6,10 @@ use borrow.Author.Needs.{needs}
 use Rattle.calls.proofs.count.after_move.Statement.{statement}
 use Rattle.calls.proofs.count.after_move.Tie as tie
 
-one-less-requires : tie.Need-one-less-requires
-one-less-requires c κs = search needs
-
 returns : tie.Need-returns
 returns c = facts-same refl refl (c .one-less .ensures) refl refl refl
 
 pub after-move-spec : {M : Type 1} → statement M
-after-move-spec = tie.close (tie.spec one-less-requires returns)
+after-move-spec =
+    tie.close
+    (tie.spec (λ c κs. search needs) returns)

@@ -13,11 +13,10 @@ returns c = sym (less-unlimited _ (omega arith))
 returns-2 : tie.Need-returns-2
 returns-2 c = omega (arith, less-limited (c .before .before .args .n) (omega arith))
 
-sub-result : tie.Need-sub-result
-sub-result c = search needs
-
 returns-3 : tie.Need-returns-3
 returns-3 c = sym (less-limited _ (omega arith))
 
 pub one-less-spec : {M : Type 1} → statement M
-one-less-spec = tie.close (tie.spec returns returns-2 sub-result returns-3)
+one-less-spec =
+    tie.close
+    (tie.spec returns returns-2 (λ c. search needs) returns-3)

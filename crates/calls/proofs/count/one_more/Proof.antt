@@ -10,11 +10,10 @@ use Rattle.calls.proofs.count.one_more.Tie as tie
 returns : tie.Need-returns
 returns c = sym (more-unlimited _ (omega arith))
 
-add-result : tie.Need-add-result
-add-result c = search needs
-
 returns-2 : tie.Need-returns-2
 returns-2 c = sym (more-limited _ (omega arith))
 
 pub one-more-spec : {M : Type 1} → statement M
-one-more-spec = tie.close (tie.spec returns add-result returns-2)
+one-more-spec =
+    tie.close
+    (tie.spec returns (λ c. search needs) returns-2)

@@ -6,24 +6,6 @@ use Rattle.formats.proofs.facts.Laws.{facts-same}
 use Rattle.formats.proofs.entry.facts.Statement.{statement}
 use Rattle.formats.proofs.entry.facts.Tie as tie
 
-cci-requires : tie.Need-cci-requires
-cci-requires c κs = search needs
-
-trigger-requires : tie.Need-trigger-requires
-trigger-requires c κs = search needs
-
-rights-requires : tie.Need-rights-requires
-rights-requires c κs = search needs
-
-permits-requires : tie.Need-permits-requires
-permits-requires c κs = search needs
-
-key-requires : tie.Need-key-requires
-key-requires c κs = search needs
-
-key-requires-2 : tie.Need-key-requires-2
-key-requires-2 c κs = search needs
-
 returns : tie.Need-returns
 unfolding entryFacts
 returns c =
@@ -33,4 +15,5 @@ returns c =
 pub facts-spec : {M : Type 1} → statement M
 facts-spec =
     tie.close
-    (tie.spec cci-requires trigger-requires rights-requires permits-requires key-requires key-requires-2 returns)
+    (tie.spec (λ c κs. search needs) (λ c κs. search needs) (λ c κs. search needs) (λ c κs. search needs)
+    (λ c κs. search needs) (λ c κs. search needs) returns)

@@ -9,12 +9,6 @@ use Rattle.formats.proofs.entry.Laws.{kind-free, torn-lone, torn-id, to
 use Rattle.formats.proofs.entry.kind.Statement.{statement}
 use Rattle.formats.proofs.entry.kind.Tie as tie
 
-usable-id-requires : tie.Need-usable-id-requires
-usable-id-requires c κs = search needs
-
-usable-id-requires-2 : tie.Need-usable-id-requires-2
-usable-id-requires-2 c κs = search needs
-
 returns : tie.Need-returns
 returns c =
     let x = c .before in
@@ -35,9 +29,6 @@ returns-3 c =
     let t = x .before .before in
     let id = some-id _ (λ e. x .if1 .left (t .usable-id .ensures ∙ e)) in
     sym (ap kindAnswer (torn-id _ _ (id .0) (omega (arith, c .if3 .taken, t .usable-id .ensures, id .1))))
-
-cci-requires : tie.Need-cci-requires
-cci-requires c κs = search needs
 
 returns-4 : tie.Need-returns-4
 returns-4 c =
@@ -97,14 +88,5 @@ returns-7 c =
 pub kind-spec : {M : Type 1} → statement M
 kind-spec =
     tie.close
-    (tie.spec
-    usable-id-requires
-    usable-id-requires-2
-    returns
-    returns-2
-    returns-3
-    cci-requires
-    returns-4
-    returns-5
-    returns-6
-    returns-7)
+    (tie.spec (λ c κs. search needs) (λ c κs. search needs) returns returns-2 returns-3 (λ c κs. search needs) returns-4
+    returns-5 returns-6 returns-7)

@@ -14,17 +14,7 @@ returns c =
     let small : a .x < 2 ^ (8 * a .place) = omega (arith, pow-mono {i = 64} {j = 8 * a .place} (omega arith)) in
     omega (arith, div-eq-of-lt small)
 
-mul-low-byte : tie.Need-mul-low-byte
-mul-low-byte c = search needs
-
-shr-low-byte : tie.Need-shr-low-byte
-shr-low-byte c = search needs
-
-low-byte-requires : tie.Need-low-byte-requires
-low-byte-requires c κs = search needs
-
-returns-2 : tie.Need-returns-2
-returns-2 c = search needs
-
 pub byte-at-spec : {M : Type 1} → statement M
-byte-at-spec = tie.close (tie.spec returns mul-low-byte shr-low-byte low-byte-requires returns-2)
+byte-at-spec =
+    tie.close
+    (tie.spec returns (λ c. search needs) (λ c. search needs) (λ c κs. search needs) (λ c. search needs))

@@ -5,30 +5,6 @@ use Rattle.formats.proofs.field.Laws.{appended}
 use Rattle.formats.proofs.field.of_eight.Statement.{statement}
 use Rattle.formats.proofs.field.of_eight.Tie as tie
 
-append-requires : tie.Need-append-requires
-append-requires c κs = search needs
-
-append-requires-2 : tie.Need-append-requires-2
-append-requires-2 c κs = search needs
-
-append-requires-3 : tie.Need-append-requires-3
-append-requires-3 c κs = search needs
-
-append-requires-4 : tie.Need-append-requires-4
-append-requires-4 c κs = search needs
-
-append-requires-5 : tie.Need-append-requires-5
-append-requires-5 c κs = search needs
-
-append-requires-6 : tie.Need-append-requires-6
-append-requires-6 c κs = search needs
-
-append-requires-7 : tie.Need-append-requires-7
-append-requires-7 c κs = search needs
-
-append-requires-8 : tie.Need-append-requires-8
-append-requires-8 c κs = search needs
-
 returns : tie.Need-returns
 returns c =
     let after-7 = c .before in
@@ -52,13 +28,5 @@ returns c =
 pub of-eight-spec : {M : Type 1} → statement M
 of-eight-spec =
     tie.close
-    (tie.spec
-    append-requires
-    append-requires-2
-    append-requires-3
-    append-requires-4
-    append-requires-5
-    append-requires-6
-    append-requires-7
-    append-requires-8
-    returns)
+    (tie.spec (λ c κs. search needs) (λ c κs. search needs) (λ c κs. search needs) (λ c κs. search needs)
+    (λ c κs. search needs) (λ c κs. search needs) (λ c κs. search needs) (λ c κs. search needs) returns)

@@ -24,9 +24,6 @@ abbrev μ-loop : tie.MeasureT-loop
 read-little-requires : tie.Need-read-little-requires Inv-loop μ-loop
 read-little-requires c κs = omega arith
 
-swapped-requires : tie.Need-swapped-requires Inv-loop μ-loop
-swapped-requires c κs = search needs
-
 returns : tie.Need-returns Inv-loop μ-loop
 returns c =
     let known = c .before .before .before in
@@ -65,16 +62,5 @@ returns-2 c =
 pub read-spec : {M : Type 1} → statement M
 read-spec =
     tie.close
-    (tie.spec
-    Inv-loop
-    μ-loop
-    read-little-requires
-    swapped-requires
-    returns
-    loop-holds
-    shared-slice-read-append
-    append-requires
-    add-i
-    loop-less
-    loop-again
-    returns-2)
+    (tie.spec Inv-loop μ-loop read-little-requires (λ c κs. search needs) returns loop-holds shared-slice-read-append
+    append-requires add-i loop-less loop-again returns-2)

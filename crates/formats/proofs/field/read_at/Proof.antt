@@ -9,16 +9,12 @@ use Rattle.formats.proofs.Part.{part-front}
 use Rattle.formats.proofs.field.read_at.Statement.{statement}
 use Rattle.formats.proofs.field.read_at.Tie as tie
 
-part-requires : tie.Need-part-requires
-part-requires c κs = search needs
-
-read-requires : tie.Need-read-requires
-read-requires c κs = search needs
-
 returns : tie.Need-returns
 returns c =
     let a = c .before .before .before .args in
     c .read .ensures ∙ ap number (rw (c .before .part .ensures) (part-front (now (a .s)) (a .start) (a .width) 8))
 
 pub read-at-spec : {M : Type 1} → statement M
-read-at-spec = tie.close (tie.spec part-requires read-requires returns)
+read-at-spec =
+    tie.close
+    (tie.spec (λ c κs. search needs) (λ c κs. search needs) returns)

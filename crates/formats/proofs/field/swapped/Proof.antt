@@ -7,33 +7,6 @@ use Rattle.formats.proofs.field.Laws.{bytes-are}
 use Rattle.formats.proofs.field.swapped.Statement.{statement}
 use Rattle.formats.proofs.field.swapped.Tie as tie
 
-low-byte-requires : tie.Need-low-byte-requires
-low-byte-requires c κs = search needs
-
-low-byte-requires-2 : tie.Need-low-byte-requires-2
-low-byte-requires-2 c κs = search needs
-
-low-byte-requires-3 : tie.Need-low-byte-requires-3
-low-byte-requires-3 c κs = search needs
-
-low-byte-requires-4 : tie.Need-low-byte-requires-4
-low-byte-requires-4 c κs = search needs
-
-low-byte-requires-5 : tie.Need-low-byte-requires-5
-low-byte-requires-5 c κs = search needs
-
-low-byte-requires-6 : tie.Need-low-byte-requires-6
-low-byte-requires-6 c κs = search needs
-
-low-byte-requires-7 : tie.Need-low-byte-requires-7
-low-byte-requires-7 c κs = search needs
-
-low-byte-requires-8 : tie.Need-low-byte-requires-8
-low-byte-requires-8 c κs = search needs
-
-of-eight-requires : tie.Need-of-eight-requires
-of-eight-requires c κs = search needs
-
 returns : tie.Need-returns
 returns c =
     let low-8 = c .before in
@@ -59,14 +32,6 @@ returns c =
 pub swapped-spec : {M : Type 1} → statement M
 swapped-spec =
     tie.close
-    (tie.spec
-    low-byte-requires
-    low-byte-requires-2
-    low-byte-requires-3
-    low-byte-requires-4
-    low-byte-requires-5
-    low-byte-requires-6
-    low-byte-requires-7
-    low-byte-requires-8
-    of-eight-requires
+    (tie.spec (λ c κs. search needs) (λ c κs. search needs) (λ c κs. search needs) (λ c κs. search needs)
+    (λ c κs. search needs) (λ c κs. search needs) (λ c κs. search needs) (λ c κs. search needs) (λ c κs. search needs)
     returns)

@@ -16,14 +16,8 @@ Inv-loop field₀ x i₀ field i = Writing field₀ x field i
 abbrev μ-loop : tie.MeasureT-loop
 μ-loop field₀ x i₀ field i = length field₀ - i
 
-swapped-requires : tie.Need-swapped-requires Inv-loop μ-loop
-swapped-requires c κs = search needs
-
 write-little-requires : tie.Need-write-little-requires Inv-loop μ-loop
 write-little-requires c κs = omega arith
-
-same-length : tie.Need-same-length Inv-loop μ-loop
-same-length c = search needs
 
 returns : tie.Need-returns Inv-loop μ-loop
 returns c =
@@ -43,9 +37,6 @@ sub-byte-at c = omega arith
 
 sub-byte-at-2 : tie.Need-sub-byte-at-2 Inv-loop μ-loop
 sub-byte-at-2 c = omega arith
-
-byte-at-requires : tie.Need-byte-at-requires Inv-loop μ-loop
-byte-at-requires c κs = search needs
 
 slice-write-field : tie.Need-slice-write-field Inv-loop μ-loop
 slice-write-field c = omega arith
@@ -69,20 +60,6 @@ returns-2 c = write-done (c .before .loop .inv) (c .loop-test .left)
 pub write-spec : {M : Type 1} → statement M
 write-spec =
     tie.close
-    (tie.spec
-    Inv-loop
-    μ-loop
-    swapped-requires
-    write-little-requires
-    same-length
-    returns
-    loop-holds
-    sub-byte-at
-    sub-byte-at-2
-    byte-at-requires
-    slice-write-field
-    add-i
-    loop-less
-    loop-again
-    same-length-2
+    (tie.spec Inv-loop μ-loop (λ c κs. search needs) write-little-requires (λ c. search needs) returns loop-holds
+    sub-byte-at sub-byte-at-2 (λ c κs. search needs) slice-write-field add-i loop-less loop-again same-length-2
     returns-2)

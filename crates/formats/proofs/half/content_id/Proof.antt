@@ -9,21 +9,6 @@ use Rattle.formats.proofs.half.Laws.{tail-low}
 use Rattle.formats.proofs.half.content_id.Statement.{statement}
 use Rattle.formats.proofs.half.content_id.Tie as tie
 
-byte-requires : tie.Need-byte-requires
-byte-requires c κs = search needs
-
-byte-requires-2 : tie.Need-byte-requires-2
-byte-requires-2 c κs = search needs
-
-ten-bits-requires : tie.Need-ten-bits-requires
-ten-bits-requires c κs = search needs
-
-returns : tie.Need-returns
-returns c = search needs
-
-read-at-requires : tie.Need-read-at-requires
-read-at-requires c κs = search needs
-
 returns-2 : tie.Need-returns-2
 returns-2 c =
     let known = c .before .before in
@@ -35,4 +20,5 @@ returns-2 c =
 pub content-id-spec : {M : Type 1} → statement M
 content-id-spec =
     tie.close
-    (tie.spec byte-requires byte-requires-2 ten-bits-requires returns read-at-requires returns-2)
+    (tie.spec (λ c κs. search needs) (λ c κs. search needs) (λ c κs. search needs) (λ c. search needs)
+    (λ c κs. search needs) returns-2)

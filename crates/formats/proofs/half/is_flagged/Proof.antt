@@ -21,15 +21,6 @@ returns-2 c = below-one _ _ (c .if2 .taken)
 returns-3 : tie.Need-returns-3
 returns-3 c = above-most _ _ (c .before .if2 .left) (c .if3 .taken)
 
-read-at-requires : tie.Need-read-at-requires
-read-at-requires c κs = search needs
-
-swapped-requires : tie.Need-swapped-requires
-swapped-requires c κs = search needs
-
-swapped-requires-2 : tie.Need-swapped-requires-2
-swapped-requires-2 c κs = search needs
-
 returns-4 : tie.Need-returns-4
 returns-4 c =
     let read = c .before .before in
@@ -44,4 +35,5 @@ returns-4 c =
 
 pub is-flagged-spec : {M : Type 1} → statement M
 is-flagged-spec =
-    tie.close (tie.spec returns returns-2 returns-3 read-at-requires swapped-requires swapped-requires-2 returns-4)
+    tie.close
+    (tie.spec returns returns-2 returns-3 (λ c κs. search needs) (λ c κs. search needs) (λ c κs. search needs) returns-4)

@@ -11,15 +11,6 @@ use Rattle.formats.proofs.field.Laws.{number-first, number-below}
 use Rattle.formats.proofs.half.key.Statement.{statement}
 use Rattle.formats.proofs.half.key.Tie as tie
 
-read-at-requires : tie.Need-read-at-requires
-read-at-requires c κs = search needs
-
-returns : tie.Need-returns
-returns c = search needs
-
-read-at-requires-2 : tie.Need-read-at-requires-2
-read-at-requires-2 c κs = search needs
-
 returns-2 : tie.Need-returns-2
 returns-2 c =
     let known = c .before .before in
@@ -34,4 +25,6 @@ returns-2 c =
     )
 
 pub key-spec : {M : Type 1} → statement M
-key-spec = tie.close (tie.spec read-at-requires returns read-at-requires-2 returns-2)
+key-spec =
+    tie.close
+    (tie.spec (λ c κs. search needs) (λ c. search needs) (λ c κs. search needs) returns-2)

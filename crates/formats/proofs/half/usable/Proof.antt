@@ -13,9 +13,6 @@ use Rattle.formats.proofs.half.usable.Tie as tie
 returns : tie.Need-returns
 returns c = sym (cut-short (now (c .before .before .args .half)) (c .if1 .taken))
 
-read-at-requires : tie.Need-read-at-requires
-read-at-requires c κs = search needs
-
 returns-2 : tie.Need-returns-2
 returns-2 c =
     let known = c .before .before in
@@ -24,4 +21,6 @@ returns-2 c =
     ∙ tail-usable h (λ i. known .shared-slice-known .given i .fits) (c .before .if1 .left)
 
 pub usable-spec : {M : Type 1} → statement M
-usable-spec = tie.close (tie.spec returns read-at-requires returns-2)
+usable-spec =
+    tie.close
+    (tie.spec returns (λ c κs. search needs) returns-2)

@@ -13,9 +13,6 @@ use Rattle.formats.proofs.half.usable_id.Tie as tie
 returns : tie.Need-returns
 returns c = unusable-id (now (c .before .before .args .half)) (cut-short (now (c .before .before .args .half)) (c .if1 .taken))
 
-read-at-requires : tie.Need-read-at-requires
-read-at-requires c κs = search needs
-
 returns-2 : tie.Need-returns-2
 returns-2 c =
     let known = c .before .before .before in
@@ -36,4 +33,6 @@ returns-3 c =
     ∙ flagged-id h whole (tail-flagged h byte whole (c .before .read-at .ensures) (c .if2 .left))
 
 pub usable-id-spec : {M : Type 1} → statement M
-usable-id-spec = tie.close (tie.spec returns read-at-requires returns-2 returns-3)
+usable-id-spec =
+    tie.close
+    (tie.spec returns (λ c κs. search needs) returns-2 returns-3)

@@ -31,23 +31,8 @@ cleared h f v size =
 returns : tie.Need-returns
 returns c = sym (short-half _ _ (omega arith))
 
-slice-read-half : tie.Need-slice-read-half
-slice-read-half c = search needs
-
-slice-write-half : tie.Need-slice-write-half
-slice-write-half c = search needs
-
-sub-write : tie.Need-sub-write
-sub-write c = search needs
-
-part-write-start : tie.Need-part-write-start
-part-write-start c = search needs
-
 part-write-end : tie.Need-part-write-end
 part-write-end c = simp length-set (omega arith)
-
-write-requires : tie.Need-write-requires
-write-requires c κs = search needs
 
 same-length : tie.Need-same-length
 same-length c = omega (arith, simp length-set at (c .before .half .given .1))
@@ -68,13 +53,5 @@ returns-2 c =
 pub wipe-spec : {M : Type 1} → statement M
 wipe-spec =
     tie.close
-    (tie.spec
-    returns
-    slice-read-half
-    slice-write-half
-    sub-write
-    part-write-start
-    part-write-end
-    write-requires
-    same-length
-    returns-2)
+    (tie.spec returns (λ c. search needs) (λ c. search needs) (λ c. search needs) (λ c. search needs) part-write-end
+    (λ c κs. search needs) same-length returns-2)

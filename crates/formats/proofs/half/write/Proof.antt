@@ -36,29 +36,8 @@ mark id = ap (bitOr (2 ^ 63)) (and-mask id 10) ∙ or-shifted 1 63 (id % 1024) (
 returns : tie.Need-returns
 returns c = sym (short-half _ _ (omega arith))
 
-sub-write : tie.Need-sub-write
-sub-write c = search needs
-
-part-write-start : tie.Need-part-write-start
-part-write-start c = search needs
-
-part-write-end : tie.Need-part-write-end
-part-write-end c = search needs
-
-write-requires : tie.Need-write-requires
-write-requires c κs = search needs
-
-sub-write-2 : tie.Need-sub-write-2
-sub-write-2 c = search needs
-
-part-write-start-2 : tie.Need-part-write-start-2
-part-write-start-2 c = search needs
-
 part-write-end-2 : tie.Need-part-write-end-2
 part-write-end-2 c = omega (arith, c .before .half .given .1)
-
-write-requires-2 : tie.Need-write-requires-2
-write-requires-2 c κs = search needs
 
 same-length : tie.Need-same-length
 same-length c = omega (arith, c .before .half2 .given .1, c .before .before .before .before .before .half .given .1)
@@ -78,15 +57,5 @@ returns-2 c =
 pub write-spec : {M : Type 1} → statement M
 write-spec =
     tie.close
-    (tie.spec
-    returns
-    sub-write
-    part-write-start
-    part-write-end
-    write-requires
-    sub-write-2
-    part-write-start-2
-    part-write-end-2
-    write-requires-2
-    same-length
-    returns-2)
+    (tie.spec returns (λ c. search needs) (λ c. search needs) (λ c. search needs) (λ c κs. search needs)
+    (λ c. search needs) (λ c. search needs) part-write-end-2 (λ c κs. search needs) same-length returns-2)

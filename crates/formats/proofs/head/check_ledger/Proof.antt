@@ -10,20 +10,11 @@ use Rattle.formats.proofs.head.check_ledger.Tie as tie
 returns : tie.Need-returns
 returns c = ledger-refused (λ h. omega arith)
 
-rows-requires : tie.Need-rows-requires
-rows-requires c κs = search needs
-
 returns-2 : tie.Need-returns-2
 returns-2 c = ledger-refused (λ h. omega arith)
 
 returns-3 : tie.Need-returns-3
 returns-3 c = ledger-refused (λ h. omega arith)
-
-add-if4 : tie.Need-add-if4
-add-if4 c = search needs
-
-mul-if4 : tie.Need-mul-if4
-mul-if4 c = search needs
 
 returns-4 : tie.Need-returns-4
 returns-4 c = ledger-refused (λ h. omega arith)
@@ -34,4 +25,5 @@ returns-5 c = passes 7 (ledger-passes (record { low = omega arith; high = omega 
 pub check-ledger-spec : {M : Type 1} → statement M
 check-ledger-spec =
     tie.close
-    (tie.spec returns rows-requires returns-2 returns-3 add-if4 mul-if4 returns-4 returns-5)
+    (tie.spec returns (λ c κs. search needs) returns-2 returns-3 (λ c. search needs) (λ c. search needs) returns-4
+    returns-5)

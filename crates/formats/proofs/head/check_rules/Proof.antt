@@ -13,23 +13,14 @@ use Rattle.formats.proofs.head.check_rules.Tie as tie
 returns : tie.Need-returns
 returns c = rules-refused (λ h. c .if1 .taken (h .table .long))
 
-read-at-requires : tie.Need-read-at-requires
-read-at-requires c κs = search needs
-
 returns-2 : tie.Need-returns-2
 returns-2 c =
     let read = c .before in
     let known = read .before .before in
     rules-refused (λ h. c .if2 .taken (rules-outer (now (known .before .args .rules)) (λ i. known .shared-slice-known .given i .fits) (omega arith) (read .read-at .ensures) refl h))
 
-shared-slice-read-if3 : tie.Need-shared-slice-read-if3
-shared-slice-read-if3 c = search needs
-
 returns-3 : tie.Need-returns-3
 returns-3 c = rules-refused (λ h. omega (arith, h .version))
-
-read-at-requires-2 : tie.Need-read-at-requires-2
-read-at-requires-2 c κs = search needs
 
 returns-4 : tie.Need-returns-4
 returns-4 c =
@@ -55,12 +46,5 @@ returns-5 c =
 pub check-rules-spec : {M : Type 1} → statement M
 check-rules-spec =
     tie.close
-    (tie.spec
-    returns
-    read-at-requires
-    returns-2
-    shared-slice-read-if3
-    returns-3
-    read-at-requires-2
-    returns-4
+    (tie.spec returns (λ c κs. search needs) returns-2 (λ c. search needs) returns-3 (λ c κs. search needs) returns-4
     returns-5)

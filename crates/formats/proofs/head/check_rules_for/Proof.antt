@@ -17,14 +17,8 @@ use Rattle.formats.proofs.head.check_rules_for.Tie as tie
 answered : (c : tie.Else1) → rulesPass (now (c .before .before .before .args .rules)) ≡ true
 answered c = passed _ 9 (lit< tt) (omega arith)
 
-check-rules-requires : tie.Need-check-rules-requires
-check-rules-requires c κs = search needs
-
 returns : tie.Need-returns
 returns c = rules-refused-for (λ h e. let p = passes 9 (rules-pass h) in omega arith)
-
-rules-application-requires : tie.Need-rules-application-requires
-rules-application-requires c κs = search needs
 
 returns-2 : tie.Need-returns-2
 returns-2 c = rules-refused-for (λ h e. omega arith)
@@ -35,4 +29,4 @@ returns-3 c = passes 9 (both (answered (c .before .before)) (eq-eqb _ _ (sym (c 
 pub check-rules-for-spec : {M : Type 1} → statement M
 check-rules-for-spec =
     tie.close
-    (tie.spec check-rules-requires returns rules-application-requires returns-2 returns-3)
+    (tie.spec (λ c κs. search needs) returns (λ c κs. search needs) returns-2 returns-3)

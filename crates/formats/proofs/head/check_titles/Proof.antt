@@ -14,18 +14,12 @@ use Rattle.formats.proofs.head.check_titles.Tie as tie
 returns : tie.Need-returns
 returns c = titles-refused (λ h. c .if1 .taken (h .table .long))
 
-read-at-requires : tie.Need-read-at-requires
-read-at-requires c κs = search needs
-
 returns-2 : tie.Need-returns-2
 returns-2 c =
     let read = c .before .before in
     let known = read .before .before in
     titles-refused
     (λ h. ⊎-elim (c .before .if2 .taken) (c .if3 .taken) (titles-front (now (known .before .args .titles)) (λ i. known .shared-slice-known .given i .fits) (omega arith) (read .read-at .ensures) refl h))
-
-read-at-requires-2 : tie.Need-read-at-requires-2
-read-at-requires-2 c κs = search needs
 
 returns-3 : tie.Need-returns-3
 returns-3 c =
@@ -46,4 +40,5 @@ returns-4 c =
 
 pub check-titles-spec : {M : Type 1} → statement M
 check-titles-spec =
-    tie.close (tie.spec returns read-at-requires returns-2 read-at-requires-2 returns-3 returns-4)
+    tie.close
+    (tie.spec returns (λ c κs. search needs) returns-2 (λ c κs. search needs) returns-3 returns-4)

@@ -12,35 +12,17 @@ use Rattle.formats.proofs.row.Laws.{key-of-eight}
 use Rattle.formats.proofs.row.facts.Statement.{statement}
 use Rattle.formats.proofs.row.facts.Tie as tie
 
-shared-slice-read-t3 : tie.Need-shared-slice-read-t3
-shared-slice-read-t3 c = search needs
-
 cast-t4 : tie.Need-cast-t4
 cast-t4 c = omega (arith, c .shared-slice-known2 .given 1 .fits)
-
-shared-slice-read-t6 : tie.Need-shared-slice-read-t6
-shared-slice-read-t6 c = search needs
 
 cast-t7 : tie.Need-cast-t7
 cast-t7 c = omega (arith, c .shared-slice-known3 .given 2 .fits)
 
-shared-slice-read-t9 : tie.Need-shared-slice-read-t9
-shared-slice-read-t9 c = search needs
-
 cast-t10 : tie.Need-cast-t10
 cast-t10 c = omega (arith, c .shared-slice-known4 .given 3 .fits)
 
-shared-slice-read-t12 : tie.Need-shared-slice-read-t12
-shared-slice-read-t12 c = search needs
-
 cast-t13 : tie.Need-cast-t13
 cast-t13 c = omega (arith, c .shared-slice-known5 .given 4 .fits)
-
-read-at-requires : tie.Need-read-at-requires
-read-at-requires c κs = search needs
-
-read-at-requires-2 : tie.Need-read-at-requires-2
-read-at-requires-2 c κs = search needs
 
 returns : tie.Need-returns
 unfolding factsOf
@@ -55,15 +37,5 @@ returns c =
 pub facts-spec : {M : Type 1} → statement M
 facts-spec =
     tie.close
-    (tie.spec
-    shared-slice-read-t3
-    cast-t4
-    shared-slice-read-t6
-    cast-t7
-    shared-slice-read-t9
-    cast-t10
-    shared-slice-read-t12
-    cast-t13
-    read-at-requires
-    read-at-requires-2
-    returns)
+    (tie.spec (λ c. search needs) cast-t4 (λ c. search needs) cast-t7 (λ c. search needs) cast-t10 (λ c. search needs)
+    cast-t13 (λ c κs. search needs) (λ c κs. search needs) returns)

@@ -18,17 +18,8 @@ judged c = sym (c .in-range .ensures ∙ ap inRange (c .before .facts .ensures))
 returns : tie.Need-returns
 returns c = sym (ap stateAnswer (is-short _ (c .if1 .taken)))
 
-shared-slice-read-first : tie.Need-shared-slice-read-first
-shared-slice-read-first c = search needs
-
 returns-2 : tie.Need-returns-2
 returns-2 c = sym (ap stateAnswer (is-empty _ (omega arith) (c .if2 .taken)))
-
-facts-requires : tie.Need-facts-requires
-facts-requires c κs = search needs
-
-in-range-requires : tie.Need-in-range-requires
-in-range-requires c κs = search needs
 
 returns-3 : tie.Need-returns-3
 returns-3 c =
@@ -54,14 +45,5 @@ returns-7 c =
 pub state-spec : {M : Type 1} → statement M
 state-spec =
     tie.close
-    (tie.spec
-    returns
-    shared-slice-read-first
-    returns-2
-    facts-requires
-    in-range-requires
-    returns-3
-    returns-4
-    returns-5
-    returns-6
-    returns-7)
+    (tie.spec returns (λ c. search needs) returns-2 (λ c κs. search needs) (λ c κs. search needs) returns-3 returns-4
+    returns-5 returns-6 returns-7)

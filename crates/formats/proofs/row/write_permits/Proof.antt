@@ -15,15 +15,6 @@ use Rattle.formats.proofs.row.write_permits.Tie as tie
 returns : tie.Need-returns
 returns c = sym (replaced-not _ _ _ (c .if1 .taken))
 
-low-byte-requires : tie.Need-low-byte-requires
-low-byte-requires c κs = search needs
-
-slice-write-row : tie.Need-slice-write-row
-slice-write-row c = search needs
-
-same-length : tie.Need-same-length
-same-length c = search needs
-
 returns-2 : tie.Need-returns-2
 unfolding withPermits
 returns-2 c =
@@ -35,4 +26,5 @@ returns-2 c =
 
 pub write-permits-spec : {M : Type 1} → statement M
 write-permits-spec =
-    tie.close (tie.spec returns low-byte-requires slice-write-row same-length returns-2)
+    tie.close
+    (tie.spec returns (λ c κs. search needs) (λ c. search needs) (λ c. search needs) returns-2)

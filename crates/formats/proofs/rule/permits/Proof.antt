@@ -6,9 +6,6 @@ use Rattle.formats.proofs.Bits.{low-four}
 use Rattle.formats.proofs.rule.permits.Statement.{statement}
 use Rattle.formats.proofs.rule.permits.Tie as tie
 
-byte-requires : tie.Need-byte-requires
-byte-requires c κs = search needs
-
 cast-result : tie.Need-cast-result
 cast-result c = omega (arith, low-four (c .byte .result))
 
@@ -16,4 +13,6 @@ returns : tie.Need-returns
 returns c = omega (arith, low-four (c .byte .result))
 
 pub permits-spec : {M : Type 1} → statement M
-permits-spec = tie.close (tie.spec byte-requires cast-result returns)
+permits-spec =
+    tie.close
+    (tie.spec (λ c κs. search needs) cast-result returns)

@@ -18,36 +18,6 @@ use Rattle.formats.proofs.rule.wipe.Tie as tie
 returns : tie.Need-returns
 returns c = sym (replaced-not _ _ _ (c .if1 .taken))
 
-wipe-requires : tie.Need-wipe-requires
-wipe-requires c κs = search needs
-
-sub-write : tie.Need-sub-write
-sub-write c = search needs
-
-part-write-start : tie.Need-part-write-start
-part-write-start c = search needs
-
-part-write-end : tie.Need-part-write-end
-part-write-end c = search needs
-
-write-requires : tie.Need-write-requires
-write-requires c κs = search needs
-
-sub-write-2 : tie.Need-sub-write-2
-sub-write-2 c = search needs
-
-part-write-start-2 : tie.Need-part-write-start-2
-part-write-start-2 c = search needs
-
-part-write-end-2 : tie.Need-part-write-end-2
-part-write-end-2 c = search needs
-
-write-requires-2 : tie.Need-write-requires-2
-write-requires-2 c κs = search needs
-
-same-length : tie.Need-same-length
-same-length c = search needs
-
 returns-2 : tie.Need-returns-2
 unfolding wipedRule
 returns-2 c =
@@ -63,16 +33,6 @@ returns-2 c =
 pub wipe-spec : {M : Type 1} → statement M
 wipe-spec =
     tie.close
-    (tie.spec
-    returns
-    wipe-requires
-    sub-write
-    part-write-start
-    part-write-end
-    write-requires
-    sub-write-2
-    part-write-start-2
-    part-write-end-2
-    write-requires-2
-    same-length
-    returns-2)
+    (tie.spec returns (λ c κs. search needs) (λ c. search needs) (λ c. search needs) (λ c. search needs)
+    (λ c κs. search needs) (λ c. search needs) (λ c. search needs) (λ c. search needs) (λ c κs. search needs)
+    (λ c. search needs) returns-2)

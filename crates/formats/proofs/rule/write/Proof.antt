@@ -58,35 +58,11 @@ assembled h t n hash ht hn small =
 returns : tie.Need-returns
 returns c = sym (replaced-not _ _ _ (c .if1 .taken))
 
-write-requires : tie.Need-write-requires
-write-requires c κs = search needs
-
-sub-write : tie.Need-sub-write
-sub-write c = search needs
-
-part-write-start : tie.Need-part-write-start
-part-write-start c = search needs
-
 part-write-end : tie.Need-part-write-end
 part-write-end c = omega arith
 
-counts-requires : tie.Need-counts-requires
-counts-requires c κs = search needs
-
-write-requires-2 : tie.Need-write-requires-2
-write-requires-2 c κs = search needs
-
-sub-write-2 : tie.Need-sub-write-2
-sub-write-2 c = search needs
-
-part-write-start-2 : tie.Need-part-write-start-2
-part-write-start-2 c = search needs
-
 part-write-end-2 : tie.Need-part-write-end-2
 part-write-end-2 c = omega (arith, c .before .rule2 .given .1)
-
-write-requires-3 : tie.Need-write-requires-3
-write-requires-3 c κs = search needs
 
 same-length : tie.Need-same-length
 same-length c = omega (arith, c .before .rule3 .given .1, c .before .before .before .before .before .rule2 .given .1)
@@ -120,17 +96,6 @@ returns-2 c =
 pub write-spec : {M : Type 1} → statement M
 write-spec =
     tie.close
-    (tie.spec
-    returns
-    write-requires
-    sub-write
-    part-write-start
-    part-write-end
-    counts-requires
-    write-requires-2
-    sub-write-2
-    part-write-start-2
-    part-write-end-2
-    write-requires-3
-    same-length
-    returns-2)
+    (tie.spec returns (λ c κs. search needs) (λ c. search needs) (λ c. search needs) part-write-end
+    (λ c κs. search needs) (λ c κs. search needs) (λ c. search needs) (λ c. search needs) part-write-end-2
+    (λ c κs. search needs) same-length returns-2)

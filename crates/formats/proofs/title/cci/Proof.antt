@@ -6,9 +6,6 @@ use Rattle.formats.proofs.Bits.{low-two}
 use Rattle.formats.proofs.title.cci.Statement.{statement}
 use Rattle.formats.proofs.title.cci.Tie as tie
 
-byte-requires : tie.Need-byte-requires
-byte-requires c κs = search needs
-
 cast-result : tie.Need-cast-result
 cast-result c = omega (arith, low-two (c .byte .result))
 
@@ -16,4 +13,6 @@ returns : tie.Need-returns
 returns c = omega (arith, low-two (c .byte .result))
 
 pub cci-spec : {M : Type 1} → statement M
-cci-spec = tie.close (tie.spec byte-requires cast-result returns)
+cci-spec =
+    tie.close
+    (tie.spec (λ c κs. search needs) cast-result returns)

@@ -13,12 +13,6 @@ use Rattle.formats.proofs.title.wipe.Tie as tie
 returns : tie.Need-returns
 returns c = sym (replaced-not _ _ _ (c .if1 .taken))
 
-wipe-requires : tie.Need-wipe-requires
-wipe-requires c κs = search needs
-
-same-length : tie.Need-same-length
-same-length c = search needs
-
 returns-2 : tie.Need-returns-2
 returns-2 c =
     let a = c .before .before .before .before .before .before .args in
@@ -28,4 +22,6 @@ returns-2 c =
     c .before .before .wipe .ensures ∙ changed-half new title (omega arith) ∙ sym (replaced-whole 16 new title size)
 
 pub wipe-spec : {M : Type 1} → statement M
-wipe-spec = tie.close (tie.spec returns wipe-requires same-length returns-2)
+wipe-spec =
+    tie.close
+    (tie.spec returns (λ c κs. search needs) (λ c. search needs) returns-2)

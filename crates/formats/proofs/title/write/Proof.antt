@@ -33,16 +33,12 @@ returns c = sym (replaced-not _ _ _ (c .if1 .taken))
 cast-write : tie.Need-cast-write
 cast-write c = omega (arith, low-two (c .before .before .before .args .cci))
 
-write-requires : tie.Need-write-requires
-write-requires c κs = search needs
-
-same-length : tie.Need-same-length
-same-length c = search needs
-
 returns-2 : tie.Need-returns-2
 returns-2 c =
     let a = c .before .before .before .before .before .before .args in
     whole (a .title .now) (a .cci) (a .key) (a .content .0) (omega arith) (c .before .before .write .ensures)
 
 pub write-spec : {M : Type 1} → statement M
-write-spec = tie.close (tie.spec returns cast-write write-requires same-length returns-2)
+write-spec =
+    tie.close
+    (tie.spec returns cast-write (λ c κs. search needs) (λ c. search needs) returns-2)

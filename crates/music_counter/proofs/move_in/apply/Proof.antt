@@ -9,43 +9,19 @@ use Rattle.music_counter.proofs.Effects.{moved-in}
 use Rattle.music_counter.proofs.move_in.apply.Statement.{statement}
 use Rattle.music_counter.proofs.move_in.apply.Tie as tie
 
-state-requires : tie.Need-state-requires
-state-requires c κs = search needs
-
-here-facts-requires : tie.Need-here-facts-requires
-here-facts-requires c κs = search needs
-
-after-move-requires : tie.Need-after-move-requires
-after-move-requires c κs = search needs
-
-put-on-card-requires : tie.Need-put-on-card-requires
-put-on-card-requires c κs = search needs
-
-same-length : tie.Need-same-length
-same-length c = search needs
-
-same-length-2 : tie.Need-same-length-2
-same-length-2 c = search needs
-
-same-length-3 : tie.Need-same-length-3
-same-length-3 c = search needs
-
 returns : tie.Need-returns
 returns c =
-    let a = c .before .before .before .before .before .before .before .before .before .before .before .before .before .before .before .before .before .args in
+    let at-put-on-card = c .before .before .before .before .before .before in
+    let at-after-move = at-put-on-card .before .before .before .before in
+    let at-here-facts = at-after-move .before in
+    let at-state = at-here-facts .before in
+    let a = at-state .before .before .before .before .before .args in
     moved-in (a .ledger .now) (a .titles .now) (a .rules .now) (a .content) (a .entry) (a .hash)
-    (c .before .before .before .before .before .before .before .before .before .before .after-move .ensures ∙ ap afterMove (c .before .before .before .before .before .before .before .before .before .before .before .here-facts .ensures ∙ ap hereFacts (same-state (c .before .before .before .before .before .before .before .before .before .before .before .before .state .ensures))))
-    (c .before .before .before .before .before .before .put-on-card .ensures)
+    (at-after-move .after-move .ensures ∙ ap afterMove (at-here-facts .here-facts .ensures ∙ ap hereFacts (same-state (at-state .state .ensures))))
+    (at-put-on-card .put-on-card .ensures)
 
 pub apply-spec : {M : Type 1} → statement M
 apply-spec =
     tie.close
-    (tie.spec
-    state-requires
-    here-facts-requires
-    after-move-requires
-    put-on-card-requires
-    same-length
-    same-length-2
-    same-length-3
-    returns)
+    (tie.spec (λ c κs. search needs) (λ c κs. search needs) (λ c κs. search needs) (λ c κs. search needs)
+    (λ c. search needs) (λ c. search needs) (λ c. search needs) returns)

@@ -1,70 +1,27 @@
 -- `music_counter::move_out::move_out` meets its contract: refused, or done.
 -- Assumes nothing.
 use borrow.Author.Needs.{needs}
-use Rattle.requests.specs.declared.request.Request.the-variants.{MoveOut}
-use Rattle.calls.specs.Buffers.{lent, contentAt}
-use Rattle.calls.specs.Effect.{effect}
-use Rattle.calls.proofs.Passed.{on-card, its-row}
-use Rattle.calls.proofs.Views.{row-inside}
-use Rattle.music_counter.proofs.Answers.{refused, done, accepted, titles-room, rules-room}
+use Rattle.music_counter.proofs.Answers.{refused, inside, done}
 use Rattle.music_counter.proofs.move_out.move_out.Statement.{statement}
 use Rattle.music_counter.proofs.move_out.move_out.Tie as tie
 
-refusal-requires : tie.Need-refusal-requires
-refusal-requires c κs = search needs
-
-same-length : tie.Need-same-length
-same-length c = search needs
-
-same-length-2 : tie.Need-same-length-2
-same-length-2 c = search needs
-
-same-length-3 : tie.Need-same-length-3
-same-length-3 c = search needs
-
 returns : tie.Need-returns
-returns c =
-    let a = c .before .before .before .before .before .before .before .before .args in
-    let b = lent (a .ledger .now) (a .titles .now) (a .rules .now) in
-    let k = MoveOut (a .entry) (a .hash) (a .fillers) in
-    refused k b (c .before .refusal .ensures) (c .if1 .taken)
+returns c = refused _ _ (c .before .refusal .ensures) (c .if1 .taken)
 
 apply-requires : tie.Need-apply-requires
 apply-requires c κs =
-    let a = c .before .before .before .before .before .before .before .before .before .before .before .args in
-    let b = lent (a .ledger .now) (a .titles .now) (a .rules .now) in
-    let k = MoveOut (a .entry) (a .hash) (a .fillers) in
-    let t = accepted k b (c .before .before .before .before .refusal .ensures) (c .before .before .before .if1 .left) in
-    (row-inside (a .ledger .now) (contentAt b (a .entry .0)) (its-row k b t), titles-room b (a .entry .0) (on-card k b t), rules-room b (a .entry .0) (on-card k b t))
-
-same-length-4 : tie.Need-same-length-4
-same-length-4 c = search needs
-
-same-length-5 : tie.Need-same-length-5
-same-length-5 c = search needs
-
-same-length-6 : tie.Need-same-length-6
-same-length-6 c = search needs
+    let left = c .before .before .before in
+    let i = inside _ _ (left .before .refusal .ensures) (left .if1 .left) in
+    record { row = i .row; title = i .title; rule = i .rule }
 
 returns-2 : tie.Need-returns-2
-unfolding effect
 returns-2 c =
-    let a = c .before .before .before .before .before .before .before .before .before .before .before .before .before .before .before .before .before .before .args in
-    let b = lent (a .ledger .now) (a .titles .now) (a .rules .now) in
-    let k = MoveOut (a .entry) (a .hash) (a .fillers) in
-    done k b (c .before .before .before .before .before .before .before .before .before .before .before .refusal .ensures) (c .before .before .before .before .before .before .before .before .before .before .if1 .left) (c .before .before .before .before .before .before .apply .ensures)
+    let changed = c .before .before .before .before .before .before in
+    let left = changed .before .before .before .before in
+    done _ _ (left .before .refusal .ensures) (left .if1 .left) (changed .apply .ensures _)
 
 pub move-out-spec : {M : Type 1} → statement M
 move-out-spec =
     tie.close
-    (tie.spec
-    refusal-requires
-    same-length
-    same-length-2
-    same-length-3
-    returns
-    apply-requires
-    same-length-4
-    same-length-5
-    same-length-6
-    returns-2)
+    (tie.spec (λ c κs. search needs) (λ c. search needs) (λ c. search needs) (λ c. search needs) returns apply-requires
+    (λ c. search needs) (λ c. search needs) (λ c. search needs) returns-2)

@@ -1,88 +1,72 @@
 -- `refusals::check_in::state` meets its contract: a condition for each test, in their order.
 -- Assumes nothing.
+use Prim.Native.Nat.{ℕ}
+use mathlib.Core.Path.{_≡_, ap}
+use mathlib.Core.List.{List}
+use lib.ListN.{drop}
 use borrow.Author.Needs.{needs}
-use mathlib.Core.Path.{ap, _∙_}
 use Rattle.formats.specs.declared.facts.Facts.{Facts}
-use Rattle.formats.proofs.entry.Laws.{same-kind}
-use Rattle.formats.proofs.row.Laws.{same-state}
-use Rattle.calls.specs.Buffers.{stateIn, isCopy, isHere, hereFacts}
+use Rattle.requests.specs.declared.request.Request.the-variants.{CheckIn}
+use Rattle.calls.specs.Buffers.{lent, isCopy, isHere, hereFacts}
+use Rattle.calls.specs.Refusal.{Condition, first}
+use Rattle.calls.specs.Conditions.{stateConditions}
 use Rattle.calls.proofs.Refusals.{hit, skip, end}
-use Rattle.refusals.proofs.Stages.{told, denied, equal-to, other-than}
+use Rattle.refusals.proofs.Stages.{told, denied, of-kind, of-its-row, equal-to, other-than}
 use Rattle.refusals.proofs.check_in.state.Statement.{statement}
 use Rattle.refusals.proofs.check_in.state.Tie as tie
 
-kind-requires : tie.Need-kind-requires
-kind-requires c κs = search needs
+-- the call's conditions
+abbrev tests : tie.Else1 → List Condition
+tests k =
+    let a = k .before .before .before .before .before .before .args in
+    stateConditions (CheckIn (a .entry) (a .f1)) (lent (a .ledger) (a .titles) (a .rules))
 
-is-copy-requires : tie.Need-is-copy-requires
-is-copy-requires c κs = search needs
+-- past a test that passed, the answer is that of the conditions after it
+is-copy : (k : tie.Else1) {n : ℕ} → n ≡ first (drop 1 (tests k)) → n ≡ first (tests k)
+is-copy k = skip 10 _ _ _ (denied (of-kind isCopy (k .before .is-copy .ensures) (k .before .before .kind .ensures)) (k .if1 .left))
+
+abbrev kind-2 : tie.Else2 → tie.Else1
+kind-2 k = k .before .before .before .before
+
+is-here : (k : tie.Else2) {n : ℕ} → n ≡ first (drop 2 (tests (kind-2 k))) → n ≡ first (tests (kind-2 k))
+is-here k q =
+    let state = k .before .before in
+    is-copy (state .before .before) (skip 11 _ _ _ (denied (of-its-row isHere _ (k .before .is-here .ensures) (state .state .ensures) (state .before .content .ensures)) (k .if2 .left)) q)
+
+abbrev kind-3 : tie.Else3 → tie.Else1
+kind-3 k = kind-2 (k .before .before .before)
+
+not-full : (k : tie.Else3) {n : ℕ} → n ≡ first (drop 3 (tests (kind-3 k))) → n ≡ first (tests (kind-3 k))
+not-full k q =
+    let row = k .before .before .before in
+    let state = row .before .before in
+    let facts = of-its-row hereFacts _ (k .before .before .here-facts .ensures) (state .state .ensures) (state .before .content .ensures) in
+    is-here row (skip 15 _ _ _ (other-than (ap (λ (f : Facts). f .permits) facts) (k .if3 .left)) q)
 
 returns : tie.Need-returns
-returns c =
-    hit 10 _ _ (denied (c .before .is-copy .ensures ∙ ap isCopy (same-kind (c .before .before .kind .ensures))) (c .if1 .taken))
-
-content-requires : tie.Need-content-requires
-content-requires c κs = search needs
-
-state-requires : tie.Need-state-requires
-state-requires c κs = search needs
-
-is-here-requires : tie.Need-is-here-requires
-is-here-requires c κs = search needs
+returns c = hit 10 _ _ (denied (of-kind isCopy (c .before .is-copy .ensures) (c .before .before .kind .ensures)) (c .if1 .taken))
 
 returns-2 : tie.Need-returns-2
 returns-2 c =
-    let kind = c .before .before .before .before in
-    skip 10 _ _ _ (denied (kind .before .is-copy .ensures ∙ ap isCopy (same-kind (kind .before .before .kind .ensures))) (kind .if1 .left))
-    (hit 11 _ _ (denied (c .before .is-here .ensures ∙ ap isHere (same-state (c .before .before .state .ensures) ∙ ap (stateIn _) (c .before .before .before .content .ensures))) (c .if2 .taken)))
-
-here-facts-requires : tie.Need-here-facts-requires
-here-facts-requires c κs = search needs
+    let state = c .before .before in
+    is-copy (state .before .before)
+    (hit 11 _ _ (denied (of-its-row isHere _ (c .before .is-here .ensures) (state .state .ensures) (state .before .content .ensures)) (c .if2 .taken)))
 
 returns-3 : tie.Need-returns-3
 returns-3 c =
     let row = c .before .before .before in
-    let kind = row .before .before .before .before in
-    skip 10 _ _ _ (denied (kind .before .is-copy .ensures ∙ ap isCopy (same-kind (kind .before .before .kind .ensures))) (kind .if1 .left))
-    (skip 11 _ _ _ (denied (row .before .is-here .ensures ∙ ap isHere (same-state (row .before .before .state .ensures) ∙ ap (stateIn _) (row .before .before .before .content .ensures))) (row .if2 .left))
-    (hit 15 _ _ (equal-to (ap (λ (f : Facts). f .permits) (c .before .before .here-facts .ensures ∙ ap hereFacts (same-state (c .before .before .before .before .before .state .ensures) ∙ ap (stateIn _) (c .before .before .before .before .before .before .content .ensures)))) (c .if3 .taken))))
-
-leaves-title-key-requires : tie.Need-leaves-title-key-requires
-leaves-title-key-requires c κs = search needs
+    let state = row .before .before in
+    let facts = of-its-row hereFacts _ (c .before .before .here-facts .ensures) (state .state .ensures) (state .before .content .ensures) in
+    is-here row (hit 15 _ _ (equal-to (ap (λ (f : Facts). f .permits) facts) (c .if3 .taken)))
 
 returns-4 : tie.Need-returns-4
-returns-4 c =
-    let facts = c .before .before in
-    let row = facts .before .before .before in
-    let kind = row .before .before .before .before in
-    skip 10 _ _ _ (denied (kind .before .is-copy .ensures ∙ ap isCopy (same-kind (kind .before .before .kind .ensures))) (kind .if1 .left))
-    (skip 11 _ _ _ (denied (row .before .is-here .ensures ∙ ap isHere (same-state (row .before .before .state .ensures) ∙ ap (stateIn _) (row .before .before .before .content .ensures))) (row .if2 .left))
-    (skip 15 _ _ _ (other-than (ap (λ (f : Facts). f .permits) (facts .before .before .here-facts .ensures ∙ ap hereFacts (same-state (facts .before .before .before .before .before .state .ensures) ∙ ap (stateIn _) (facts .before .before .before .before .before .before .content .ensures)))) (facts .if3 .left))
-    (hit 16 _ _ (told (c .before .leaves-title-key .ensures) (c .if4 .taken)))))
+returns-4 c = not-full (c .before .before) (hit 16 _ _ (told (c .before .leaves-title-key .ensures) (c .if4 .taken)))
 
 returns-5 : tie.Need-returns-5
-returns-5 c =
-    let facts = c .before .before in
-    let row = facts .before .before .before in
-    let kind = row .before .before .before .before in
-    skip 10 _ _ _ (denied (kind .before .is-copy .ensures ∙ ap isCopy (same-kind (kind .before .before .kind .ensures))) (kind .if1 .left))
-    (skip 11 _ _ _ (denied (row .before .is-here .ensures ∙ ap isHere (same-state (row .before .before .state .ensures) ∙ ap (stateIn _) (row .before .before .before .content .ensures))) (row .if2 .left))
-    (skip 15 _ _ _ (other-than (ap (λ (f : Facts). f .permits) (facts .before .before .here-facts .ensures ∙ ap hereFacts (same-state (facts .before .before .before .before .before .state .ensures) ∙ ap (stateIn _) (facts .before .before .before .before .before .before .content .ensures)))) (facts .if3 .left))
-    (skip 16 _ _ _ (told (c .before .leaves-title-key .ensures) (c .if4 .left)) end)))
+returns-5 c = not-full (c .before .before) (skip 16 _ _ _ (told (c .before .leaves-title-key .ensures) (c .if4 .left)) end)
 
 pub state-spec : {M : Type 1} → statement M
 state-spec =
     tie.close
-    (tie.spec
-    kind-requires
-    is-copy-requires
-    returns
-    content-requires
-    state-requires
-    is-here-requires
-    returns-2
-    here-facts-requires
-    returns-3
-    leaves-title-key-requires
-    returns-4
-    returns-5)
+    (tie.spec (λ c κs. search needs) (λ c κs. search needs) returns (λ c κs. search needs) (λ c κs. search needs)
+    (λ c κs. search needs) returns-2 (λ c κs. search needs) returns-3 (λ c κs. search needs) returns-4 returns-5)

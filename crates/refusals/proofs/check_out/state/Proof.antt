@@ -1,67 +1,55 @@
 -- `refusals::check_out::state` meets its contract: a condition for each test, in their order.
 -- Assumes nothing.
+use Prim.Native.Nat.{ℕ}
+use mathlib.Core.Path.{_≡_, ap}
+use mathlib.Core.List.{List}
+use lib.ListN.{drop}
 use borrow.Author.Needs.{needs}
-use mathlib.Core.Path.{ap, _∙_}
 use Rattle.formats.specs.declared.facts.Facts.{Facts}
-use Rattle.formats.proofs.entry.Laws.{same-kind}
-use Rattle.formats.proofs.row.Laws.{same-state}
-use Rattle.calls.specs.Buffers.{isFree, isHere, hereFacts}
+use Rattle.requests.specs.declared.request.Request.the-variants.{CheckOut}
+use Rattle.calls.specs.Buffers.{lent, isFree, isHere, hereFacts}
+use Rattle.calls.specs.Refusal.{Condition, first}
+use Rattle.calls.specs.Conditions.{stateConditions}
 use Rattle.calls.proofs.Refusals.{hit, skip, end}
-use Rattle.refusals.proofs.Stages.{denied, equal-to, other-than}
+use Rattle.refusals.proofs.Stages.{denied, of-kind, of-row, equal-to, other-than}
 use Rattle.refusals.proofs.check_out.state.Statement.{statement}
 use Rattle.refusals.proofs.check_out.state.Tie as tie
 
-kind-requires : tie.Need-kind-requires
-kind-requires c κs = search needs
+-- the call's conditions
+abbrev tests : tie.Else1 → List Condition
+tests k =
+    let a = k .before .before .before .before .before .before .args in
+    stateConditions (CheckOut (a .content) (a .entry)) (lent (a .ledger) (a .titles) (a .rules))
 
-is-free-requires : tie.Need-is-free-requires
-is-free-requires c κs = search needs
+-- past a test that passed, the answer is that of the conditions after it
+is-free : (k : tie.Else1) {n : ℕ} → n ≡ first (drop 1 (tests k)) → n ≡ first (tests k)
+is-free k = skip 10 _ _ _ (denied (of-kind isFree (k .before .is-free .ensures) (k .before .before .kind .ensures)) (k .if1 .left))
+
+is-here : (k : tie.Else2) {n : ℕ} → n ≡ first (drop 2 (tests (k .before .before .before))) → n ≡ first (tests (k .before .before .before))
+is-here k q = is-free (k .before .before .before) (skip 11 _ _ _ (denied (of-row isHere (k .before .is-here .ensures) (k .before .before .state .ensures)) (k .if2 .left)) q)
 
 returns : tie.Need-returns
-returns c =
-    hit 10 _ _ (denied (c .before .is-free .ensures ∙ ap isFree (same-kind (c .before .before .kind .ensures))) (c .if1 .taken))
-
-state-requires : tie.Need-state-requires
-state-requires c κs = search needs
-
-is-here-requires : tie.Need-is-here-requires
-is-here-requires c κs = search needs
+returns c = hit 10 _ _ (denied (of-kind isFree (c .before .is-free .ensures) (c .before .before .kind .ensures)) (c .if1 .taken))
 
 returns-2 : tie.Need-returns-2
 returns-2 c =
-    let kind = c .before .before .before in
-    skip 10 _ _ _ (denied (kind .before .is-free .ensures ∙ ap isFree (same-kind (kind .before .before .kind .ensures))) (kind .if1 .left))
-    (hit 11 _ _ (denied (c .before .is-here .ensures ∙ ap isHere (same-state (c .before .before .state .ensures))) (c .if2 .taken)))
-
-here-facts-requires : tie.Need-here-facts-requires
-here-facts-requires c κs = search needs
+    is-free (c .before .before .before)
+    (hit 11 _ _ (denied (of-row isHere (c .before .is-here .ensures) (c .before .before .state .ensures)) (c .if2 .taken)))
 
 returns-3 : tie.Need-returns-3
 returns-3 c =
     let row = c .before .before .before in
-    let kind = row .before .before .before in
-    skip 10 _ _ _ (denied (kind .before .is-free .ensures ∙ ap isFree (same-kind (kind .before .before .kind .ensures))) (kind .if1 .left))
-    (skip 11 _ _ _ (denied (row .before .is-here .ensures ∙ ap isHere (same-state (row .before .before .state .ensures))) (row .if2 .left))
-    (hit 12 _ _ (equal-to (ap (λ (f : Facts). f .permits) (c .before .before .here-facts .ensures ∙ ap hereFacts (same-state (c .before .before .before .before .before .state .ensures)))) (c .if3 .taken))))
+    let facts = of-row hereFacts (c .before .before .here-facts .ensures) (row .before .before .state .ensures) in
+    is-here row (hit 12 _ _ (equal-to (ap (λ (f : Facts). f .permits) facts) (c .if3 .taken)))
 
 returns-4 : tie.Need-returns-4
 returns-4 c =
     let row = c .before .before .before in
-    let kind = row .before .before .before in
-    skip 10 _ _ _ (denied (kind .before .is-free .ensures ∙ ap isFree (same-kind (kind .before .before .kind .ensures))) (kind .if1 .left))
-    (skip 11 _ _ _ (denied (row .before .is-here .ensures ∙ ap isHere (same-state (row .before .before .state .ensures))) (row .if2 .left))
-    (skip 12 _ _ _ (other-than (ap (λ (f : Facts). f .permits) (c .before .before .here-facts .ensures ∙ ap hereFacts (same-state (c .before .before .before .before .before .state .ensures)))) (c .if3 .left)) end))
+    let facts = of-row hereFacts (c .before .before .here-facts .ensures) (row .before .before .state .ensures) in
+    is-here row (skip 12 _ _ _ (other-than (ap (λ (f : Facts). f .permits) facts) (c .if3 .left)) end)
 
 pub state-spec : {M : Type 1} → statement M
 state-spec =
     tie.close
-    (tie.spec
-    kind-requires
-    is-free-requires
-    returns
-    state-requires
-    is-here-requires
-    returns-2
-    here-facts-requires
-    returns-3
-    returns-4)
+    (tie.spec (λ c κs. search needs) (λ c κs. search needs) returns (λ c κs. search needs) (λ c κs. search needs)
+    returns-2 (λ c κs. search needs) returns-3 returns-4)

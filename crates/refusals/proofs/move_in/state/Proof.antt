@@ -1,89 +1,62 @@
 -- `refusals::move_in::state` meets its contract: a condition for each test, in their order.
 -- Assumes nothing.
+use Prim.Native.Nat.{ℕ}
+use mathlib.Core.Path.{_≡_, ap, _∙_}
+use mathlib.Core.List.{List}
+use lib.ListN.{drop}
 use borrow.Author.Needs.{needs}
-use mathlib.Core.Path.{ap, _∙_}
 use borrow.Author.Tests.{not-true, not-false}
-use Rattle.formats.proofs.entry.Laws.{same-kind}
-use Rattle.formats.proofs.row.Laws.{same-state}
-use Rattle.calls.specs.Buffers.{isFree, isHere, hereFacts}
-use Rattle.calls.specs.Conditions.{mayNotMove}
+use Rattle.requests.specs.declared.request.Request.the-variants.{MoveIn}
+use Rattle.calls.specs.Buffers.{lent, isFree, isHere, hereFacts}
+use Rattle.calls.specs.Refusal.{Condition, first}
+use Rattle.calls.specs.Conditions.{mayNotMove, stateConditions}
 use Rattle.calls.proofs.Refusals.{hit, skip, end}
-use Rattle.refusals.proofs.Stages.{told, denied}
+use Rattle.refusals.proofs.Stages.{told, denied, of-kind, of-row}
 use Rattle.refusals.proofs.move_in.state.Statement.{statement}
 use Rattle.refusals.proofs.move_in.state.Tie as tie
 
-kind-requires : tie.Need-kind-requires
-kind-requires c κs = search needs
+-- the call's conditions
+abbrev tests : ℕ → tie.Else1 → List Condition
+tests hash k =
+    let a = k .before .before .before .before .before .before .args in
+    stateConditions (MoveIn (a .content) (a .entry) hash) (lent (a .ledger) (a .titles) (a .rules))
 
-is-free-requires : tie.Need-is-free-requires
-is-free-requires c κs = search needs
+-- past a test that passed, the answer is that of the conditions after it
+is-free : (hash : ℕ) (k : tie.Else1) {n : ℕ} → n ≡ first (drop 1 (tests hash k)) → n ≡ first (tests hash k)
+is-free hash k = skip 10 _ _ _ (denied (of-kind isFree (k .before .is-free .ensures) (k .before .before .kind .ensures)) (k .if1 .left))
+
+is-here : (hash : ℕ) (k : tie.Else2) {n : ℕ} → n ≡ first (drop 2 (tests hash (k .before .before .before))) → n ≡ first (tests hash (k .before .before .before))
+is-here hash k q = is-free hash (k .before .before .before) (skip 11 _ _ _ (denied (of-row isHere (k .before .is-here .ensures) (k .before .before .state .ensures)) (k .if2 .left)) q)
+
+may-move : (hash : ℕ) (k : tie.Else3) {n : ℕ} → n ≡ first (drop 3 (tests hash (k .before .before .before .before .before .before)))
+    → n ≡ first (tests hash (k .before .before .before .before .before .before))
+may-move hash k q =
+    let row = k .before .before .before in
+    let facts = of-row hereFacts (k .before .before .here-facts .ensures) (row .before .before .state .ensures) in
+    is-here hash row (skip 12 _ _ _ (told (k .before .may-not-move .ensures ∙ ap mayNotMove facts) (k .if3 .left)) q)
 
 returns : tie.Need-returns
-returns c =
-    hit 10 _ _ (denied (c .before .is-free .ensures ∙ ap isFree (same-kind (c .before .before .kind .ensures))) (c .if1 .taken))
-
-state-requires : tie.Need-state-requires
-state-requires c κs = search needs
-
-is-here-requires : tie.Need-is-here-requires
-is-here-requires c κs = search needs
+returns c hash = hit 10 _ _ (denied (of-kind isFree (c .before .is-free .ensures) (c .before .before .kind .ensures)) (c .if1 .taken))
 
 returns-2 : tie.Need-returns-2
-returns-2 c =
-    let kind = c .before .before .before in
-    skip 10 _ _ _ (denied (kind .before .is-free .ensures ∙ ap isFree (same-kind (kind .before .before .kind .ensures))) (kind .if1 .left))
-    (hit 11 _ _ (denied (c .before .is-here .ensures ∙ ap isHere (same-state (c .before .before .state .ensures))) (c .if2 .taken)))
-
-here-facts-requires : tie.Need-here-facts-requires
-here-facts-requires c κs = search needs
-
-may-not-move-requires : tie.Need-may-not-move-requires
-may-not-move-requires c κs = search needs
+returns-2 c hash =
+    is-free hash (c .before .before .before)
+    (hit 11 _ _ (denied (of-row isHere (c .before .is-here .ensures) (c .before .before .state .ensures)) (c .if2 .taken)))
 
 returns-3 : tie.Need-returns-3
-returns-3 c =
+returns-3 c hash =
     let row = c .before .before .before in
-    let kind = row .before .before .before in
-    skip 10 _ _ _ (denied (kind .before .is-free .ensures ∙ ap isFree (same-kind (kind .before .before .kind .ensures))) (kind .if1 .left))
-    (skip 11 _ _ _ (denied (row .before .is-here .ensures ∙ ap isHere (same-state (row .before .before .state .ensures))) (row .if2 .left))
-    (hit 12 _ _ (told (c .before .may-not-move .ensures ∙ ap mayNotMove (c .before .before .here-facts .ensures ∙ ap hereFacts (same-state (c .before .before .before .before .before .state .ensures)))) (c .if3 .taken))))
-
-any-requires : tie.Need-any-requires
-any-requires c κs = search needs
+    let facts = of-row hereFacts (c .before .before .here-facts .ensures) (row .before .before .state .ensures) in
+    is-here hash row (hit 12 _ _ (told (c .before .may-not-move .ensures ∙ ap mayNotMove facts) (c .if3 .taken)))
 
 returns-4 : tie.Need-returns-4
-returns-4 c =
-    let facts = c .before .before in
-    let row = facts .before .before .before in
-    let kind = row .before .before .before in
-    skip 10 _ _ _ (denied (kind .before .is-free .ensures ∙ ap isFree (same-kind (kind .before .before .kind .ensures))) (kind .if1 .left))
-    (skip 11 _ _ _ (denied (row .before .is-here .ensures ∙ ap isHere (same-state (row .before .before .state .ensures))) (row .if2 .left))
-    (skip 12 _ _ _ (told (facts .before .may-not-move .ensures ∙ ap mayNotMove (facts .before .before .here-facts .ensures ∙ ap hereFacts (same-state (facts .before .before .before .before .before .state .ensures)))) (facts .if3 .left))
-    (skip 14 _ _ _ (told (c .before .any .ensures) (not-true _ (c .if4 .taken))) end)))
+returns-4 c hash = may-move hash (c .before .before) (skip 14 _ _ _ (told (c .before .any .ensures) (not-true _ (c .if4 .taken))) end)
 
 returns-5 : tie.Need-returns-5
-returns-5 c =
-    let facts = c .before .before in
-    let row = facts .before .before .before in
-    let kind = row .before .before .before in
-    skip 10 _ _ _ (denied (kind .before .is-free .ensures ∙ ap isFree (same-kind (kind .before .before .kind .ensures))) (kind .if1 .left))
-    (skip 11 _ _ _ (denied (row .before .is-here .ensures ∙ ap isHere (same-state (row .before .before .state .ensures))) (row .if2 .left))
-    (skip 12 _ _ _ (told (facts .before .may-not-move .ensures ∙ ap mayNotMove (facts .before .before .here-facts .ensures ∙ ap hereFacts (same-state (facts .before .before .before .before .before .state .ensures)))) (facts .if3 .left))
-    (hit 14 _ _ (told (c .before .any .ensures) (not-false _ (c .if4 .left))))))
+returns-5 c hash = may-move hash (c .before .before) (hit 14 _ _ (told (c .before .any .ensures) (not-false _ (c .if4 .left))))
 
 pub state-spec : {M : Type 1} → statement M
 state-spec =
     tie.close
-    (tie.spec
-    kind-requires
-    is-free-requires
-    returns
-    state-requires
-    is-here-requires
-    returns-2
-    here-facts-requires
-    may-not-move-requires
-    returns-3
-    any-requires
-    returns-4
-    returns-5)
+    (tie.spec (λ c κs. search needs) (λ c κs. search needs) returns (λ c κs. search needs) (λ c κs. search needs)
+    returns-2 (λ c κs. search needs) (λ c κs. search needs) returns-3 (λ c κs. search needs) returns-4 returns-5)

@@ -1,51 +1,45 @@
 -- `refusals::record::state` meets its contract: a condition for each test, in their order.
 -- Assumes nothing.
+use Prim.Native.Nat.{ℕ}
+use mathlib.Core.Path.{_≡_}
+use mathlib.Core.List.{List}
+use lib.ListN.{drop}
 use borrow.Author.Needs.{needs}
-use mathlib.Core.Path.{ap, _∙_}
-use Rattle.formats.proofs.entry.Laws.{same-kind}
-use Rattle.formats.proofs.row.Laws.{same-state}
-use Rattle.calls.specs.Buffers.{isFree, isEmpty}
+use Rattle.formats.specs.declared.facts.Facts.{Facts}
+use Rattle.requests.specs.declared.request.Request.the-variants.{Record}
+use Rattle.calls.specs.Buffers.{lent, isFree, isEmpty}
+use Rattle.calls.specs.Refusal.{Condition, first}
+use Rattle.calls.specs.Conditions.{stateConditions}
 use Rattle.calls.proofs.Refusals.{hit, skip, end}
-use Rattle.refusals.proofs.Stages.{denied}
+use Rattle.refusals.proofs.Stages.{denied, of-kind, of-row}
 use Rattle.refusals.proofs.record.state.Statement.{statement}
 use Rattle.refusals.proofs.record.state.Tie as tie
 
-kind-requires : tie.Need-kind-requires
-kind-requires c κs = search needs
+-- the call's conditions
+abbrev tests : Facts → ℕ → tie.Else1 → List Condition
+tests facts hash k =
+    let a = k .before .before .before .before .before .before .args in
+    stateConditions (Record (a .content) (a .entry) facts hash) (lent (a .ledger) (a .titles) (a .rules))
 
-is-free-requires : tie.Need-is-free-requires
-is-free-requires c κs = search needs
+-- past a test that passed, the answer is that of the conditions after it
+is-free : (facts : Facts) (hash : ℕ) (k : tie.Else1) {n : ℕ} → n ≡ first (drop 1 (tests facts hash k)) → n ≡ first (tests facts hash k)
+is-free facts hash k = skip 10 _ _ _ (denied (of-kind isFree (k .before .is-free .ensures) (k .before .before .kind .ensures)) (k .if1 .left))
 
 returns : tie.Need-returns
-returns c =
-    hit 10 _ _ (denied (c .before .is-free .ensures ∙ ap isFree (same-kind (c .before .before .kind .ensures))) (c .if1 .taken))
-
-state-requires : tie.Need-state-requires
-state-requires c κs = search needs
-
-is-empty-requires : tie.Need-is-empty-requires
-is-empty-requires c κs = search needs
+returns c facts hash = hit 10 _ _ (denied (of-kind isFree (c .before .is-free .ensures) (c .before .before .kind .ensures)) (c .if1 .taken))
 
 returns-2 : tie.Need-returns-2
-returns-2 c =
-    let kind = c .before .before .before in
-    skip 10 _ _ _ (denied (kind .before .is-free .ensures ∙ ap isFree (same-kind (kind .before .before .kind .ensures))) (kind .if1 .left))
-    (hit 11 _ _ (denied (c .before .is-empty .ensures ∙ ap isEmpty (same-state (c .before .before .state .ensures))) (c .if2 .taken)))
+returns-2 c facts hash =
+    is-free facts hash (c .before .before .before)
+    (hit 11 _ _ (denied (of-row isEmpty (c .before .is-empty .ensures) (c .before .before .state .ensures)) (c .if2 .taken)))
 
 returns-3 : tie.Need-returns-3
-returns-3 c =
-    let kind = c .before .before .before in
-    skip 10 _ _ _ (denied (kind .before .is-free .ensures ∙ ap isFree (same-kind (kind .before .before .kind .ensures))) (kind .if1 .left))
-    (skip 11 _ _ _ (denied (c .before .is-empty .ensures ∙ ap isEmpty (same-state (c .before .before .state .ensures))) (c .if2 .left)) end)
+returns-3 c facts hash =
+    is-free facts hash (c .before .before .before)
+    (skip 11 _ _ _ (denied (of-row isEmpty (c .before .is-empty .ensures) (c .before .before .state .ensures)) (c .if2 .left)) end)
 
 pub state-spec : {M : Type 1} → statement M
 state-spec =
     tie.close
-    (tie.spec
-    kind-requires
-    is-free-requires
-    returns
-    state-requires
-    is-empty-requires
-    returns-2
-    returns-3)
+    (tie.spec (λ c κs. search needs) (λ c κs. search needs) returns (λ c κs. search needs) (λ c κs. search needs)
+    returns-2 returns-3)

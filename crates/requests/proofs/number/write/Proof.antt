@@ -9,19 +9,10 @@ use Rattle.requests.proofs.number.Laws.{too-short, wrote}
 use Rattle.requests.proofs.number.write.Statement.{statement}
 use Rattle.requests.proofs.number.write.Tie as tie
 
-len-requires : tie.Need-len-requires
-len-requires c κs = search needs
-
 returns : tie.Need-returns
 returns c =
     let a = c .before .before .before .args in
     too-short (groups (a .x)) (now (a .out)) (omega arith)
-
-write-at-requires : tie.Need-write-at-requires
-write-at-requires c κs = search needs
-
-same-length : tie.Need-same-length
-same-length c = search needs
 
 returns-2 : tie.Need-returns-2
 returns-2 c =
@@ -30,4 +21,6 @@ returns-2 c =
     wrote (groups (a .x)) (now (a .out)) (omega arith) (omega arith) (put .1)
 
 pub write-spec : {M : Type 1} → statement M
-write-spec = tie.close (tie.spec len-requires returns write-at-requires same-length returns-2)
+write-spec =
+    tie.close
+    (tie.spec (λ c κs. search needs) returns (λ c κs. search needs) (λ c. search needs) returns-2)

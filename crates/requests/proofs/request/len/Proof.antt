@@ -17,15 +17,6 @@ Inv-loop kind values left₀ n₀ i₀ left n i = Counting (schema kind) values 
 abbrev μ-loop : tie.MeasureT-loop
 μ-loop kind values left₀ n₀ i₀ left n i = left
 
-numbers-of-requires : tie.Need-numbers-of-requires Inv-loop μ-loop
-numbers-of-requires c κs = search needs
-
-packed-schema-requires : tie.Need-packed-schema-requires Inv-loop μ-loop
-packed-schema-requires c κs = search needs
-
-len-requires : tie.Need-len-requires Inv-loop μ-loop
-len-requires c κs = search needs
-
 loop-holds : tie.Need-loop-holds Inv-loop μ-loop
 loop-holds c =
     let numbers = c .before .before .before .numbers-of in
@@ -42,9 +33,6 @@ mul-len c = omega (arith, within (c .before .loop .inv .left-is) (c .loop-test .
 
 array-read-len : tie.Need-array-read-len Inv-loop μ-loop
 array-read-len c = within (c .before .loop .inv .left-is) (c .loop-test .taken) (schema-size _)
-
-len-requires-2 : tie.Need-len-requires-2 Inv-loop μ-loop
-len-requires-2 c κs = search needs
 
 add-n : tie.Need-add-n Inv-loop μ-loop
 add-n c =
@@ -71,5 +59,5 @@ returns c =
 pub len-spec : {M : Type 1} → statement M
 len-spec =
     tie.close
-    (tie.spec Inv-loop μ-loop numbers-of-requires packed-schema-requires len-requires loop-holds mul-len array-read-len len-requires-2 add-n add-i
-    loop-less loop-again returns)
+    (tie.spec Inv-loop μ-loop (λ c κs. search needs) (λ c κs. search needs) (λ c κs. search needs) loop-holds mul-len
+    array-read-len (λ c κs. search needs) add-n add-i loop-less loop-again returns)

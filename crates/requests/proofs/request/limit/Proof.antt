@@ -14,12 +14,6 @@ Inv-loop kind values left₀ i₀ left i = Limiting (schema kind) values left i
 abbrev μ-loop : tie.MeasureT-loop
 μ-loop kind values left₀ i₀ left i = left
 
-numbers-of-requires : tie.Need-numbers-of-requires Inv-loop μ-loop
-numbers-of-requires c κs = search needs
-
-packed-schema-requires : tie.Need-packed-schema-requires Inv-loop μ-loop
-packed-schema-requires c κs = search needs
-
 loop-holds : tie.Need-loop-holds Inv-loop μ-loop
 loop-holds c =
     let numbers = c .before .before .numbers-of in
@@ -29,17 +23,11 @@ loop-holds c =
       size = nine (numbers .ensures);
     }
 
-argument-of-requires : tie.Need-argument-of-requires Inv-loop μ-loop
-argument-of-requires c κs = search needs
-
 mul-argument-limit : tie.Need-mul-argument-limit Inv-loop μ-loop
 mul-argument-limit c = omega (arith, within (c .before .before .loop .inv .left-is) (c .before .loop-test .taken) (schema-size _))
 
 array-read-argument-limit : tie.Need-array-read-argument-limit Inv-loop μ-loop
 array-read-argument-limit c = within (c .before .before .loop .inv .left-is) (c .before .loop-test .taken) (schema-size _)
-
-argument-limit-requires : tie.Need-argument-limit-requires Inv-loop μ-loop
-argument-limit-requires c κs = search needs
 
 returns : tie.Need-returns Inv-loop μ-loop
 returns c =
@@ -66,5 +54,5 @@ returns-2 c = limit-none (c .before .loop .inv) (c .loop-test .left) ∙ limit-i
 pub limit-spec : {M : Type 1} → statement M
 limit-spec =
     tie.close
-    (tie.spec Inv-loop μ-loop numbers-of-requires packed-schema-requires loop-holds argument-of-requires mul-argument-limit
-    array-read-argument-limit argument-limit-requires returns add-i loop-less loop-again returns-2)
+    (tie.spec Inv-loop μ-loop (λ c κs. search needs) (λ c κs. search needs) loop-holds (λ c κs. search needs)
+    mul-argument-limit array-read-argument-limit (λ c κs. search needs) returns add-i loop-less loop-again returns-2)

@@ -6,27 +6,6 @@ use Rattle.requests.proofs.request.Packing.{held}
 use Rattle.requests.proofs.request.numbers_of.Statement.{statement}
 use Rattle.requests.proofs.request.numbers_of.Tie as tie
 
-enum-known-request : tie.Need-enum-known-request
-enum-known-request c = search needs
-
-enum-known-request-2 : tie.Need-enum-known-request-2
-enum-known-request-2 c = search needs
-
-enum-known-request-3 : tie.Need-enum-known-request-3
-enum-known-request-3 c = search needs
-
-enum-known-request-4 : tie.Need-enum-known-request-4
-enum-known-request-4 c = search needs
-
-enum-known-request-5 : tie.Need-enum-known-request-5
-enum-known-request-5 c = search needs
-
-enum-known-request-6 : tie.Need-enum-known-request-6
-enum-known-request-6 c = search needs
-
-enum-known-request-7 : tie.Need-enum-known-request-7
-enum-known-request-7 c = search needs
-
 returns : tie.Need-returns
 unfolding filled
 returns c = held (c .before .request .given .1)
@@ -56,4 +35,7 @@ unfolding filled
 returns-7 c = held (c .before .request7 .given .1)
 
 pub numbers-of-spec : {M : Type 1} → statement M
-numbers-of-spec = tie.close (tie.spec enum-known-request enum-known-request-2 enum-known-request-3 enum-known-request-4 enum-known-request-5 enum-known-request-6 enum-known-request-7 returns returns-2 returns-3 returns-4 returns-5 returns-6 returns-7)
+numbers-of-spec =
+    tie.close
+    (tie.spec (λ c. search needs) (λ c. search needs) (λ c. search needs) (λ c. search needs) (λ c. search needs)
+    (λ c. search needs) (λ c. search needs) returns returns-2 returns-3 returns-4 returns-5 returns-6 returns-7)

@@ -17,27 +17,12 @@ use Rattle.requests.proofs.request.Reading.{KindRead, request-fault, re
 use Rattle.requests.proofs.request.read.Statement.{statement}
 use Rattle.requests.proofs.request.read.Tie as tie
 
-read-requires : tie.Need-read-requires
-read-requires c κs = search needs
-
-enum-known-found : tie.Need-enum-known-found
-enum-known-found c = search needs
-
-enum-told : tie.Need-enum-told
-enum-told c = search needs
-
-number-refusal-requires : tie.Need-number-refusal-requires
-number-refusal-requires c κs = search needs
-
 returns : tie.Need-returns
 returns c =
     let told = c .before .enum-told .given .1 in
     let read = c .before .before .before in
     ap requestAnswer
     (ap Refused (c .number-refusal .ensures ∙ ap (λ (r : NumberRead). numberAnswer r .number) told) ∙ sym (kind-refused _ (sym (same-number (read .read .ensures)) ∙ told)))
-
-range-limit-requires : tie.Need-range-limit-requires
-range-limit-requires c κs = search needs
 
 returns-2 : tie.Need-returns-2
 returns-2 c =
@@ -56,12 +41,6 @@ part-read-arguments-start c =
     let x = c .before .before .before in
     read-within _ (sym (same-number (x .before .before .read .ensures)) ∙ x .found .given .1)
 
-part-read-arguments-end : tie.Need-part-read-arguments-end
-part-read-arguments-end c = search needs
-
-read-arguments-requires : tie.Need-read-arguments-requires
-read-arguments-requires c κs = search needs
-
 -- what is known once the arguments are read
 kind-read : (c : tie.After-read-arguments) → let x = c .before .before .before .before .before in
     KindRead (now (x .before .before .before .before .args .s)) (x .found .given .0 .0) (x .found .given .0 .1 .0) (c .read-arguments .result)
@@ -75,9 +54,6 @@ kind-read c =
 
 returns-3 : tie.Need-returns-3
 returns-3 c = ap requestAnswer (request-fault (kind-read (c .before .before)) (c .if2 .taken))
-
-request-of-requires : tie.Need-request-of-requires
-request-of-requires c κs = search needs
 
 add-t11 : tie.Need-add-t11
 add-t11 c =
@@ -97,5 +73,6 @@ returns-4 c =
 pub read-spec : {M : Type 1} → statement M
 read-spec =
     tie.close
-    (tie.spec read-requires enum-known-found enum-told number-refusal-requires returns range-limit-requires returns-2 sub-read-arguments
-    part-read-arguments-start part-read-arguments-end read-arguments-requires returns-3 request-of-requires add-t11 returns-4)
+    (tie.spec (λ c κs. search needs) (λ c. search needs) (λ c. search needs) (λ c κs. search needs) returns
+    (λ c κs. search needs) returns-2 sub-read-arguments part-read-arguments-start (λ c. search needs)
+    (λ c κs. search needs) returns-3 (λ c κs. search needs) add-t11 returns-4)

@@ -22,9 +22,6 @@ Inv-loop s kind left₀ values₀ count₀ used₀ left values count used = Taki
 abbrev μ-loop : tie.MeasureT-loop
 μ-loop s kind left₀ values₀ count₀ used₀ left values count used = left
 
-packed-schema-requires : tie.Need-packed-schema-requires Inv-loop μ-loop
-packed-schema-requires c κs = search needs
-
 loop-holds : tie.Need-loop-holds Inv-loop μ-loop
 loop-holds c = begin _ _ (c .packed-schema .ensures)
 
@@ -37,21 +34,6 @@ part-read-start c = omega arith
 part-read-end : tie.Need-part-read-end Inv-loop μ-loop
 part-read-end c = omega arith
 
-read-requires : tie.Need-read-requires Inv-loop μ-loop
-read-requires c κs = search needs
-
-enum-known-found : tie.Need-enum-known-found Inv-loop μ-loop
-enum-known-found c = search needs
-
-enum-told : tie.Need-enum-told Inv-loop μ-loop
-enum-told c = search needs
-
-number-refusal-requires : tie.Need-number-refusal-requires Inv-loop μ-loop
-number-refusal-requires c κs = search needs
-
-refused-requires : tie.Need-refused-requires Inv-loop μ-loop
-refused-requires c κs = search needs
-
 returns : tie.Need-returns Inv-loop μ-loop
 returns c =
     let told = c .before .before .enum-told .given .1 in
@@ -61,15 +43,6 @@ returns c =
     c .refused .ensures
     ∙ ap (λ (w : ℕ). argumentsAnswer (Fault w)) (c .before .number-refusal .ensures ∙ ap (λ (r : NumberRead). numberAnswer r .number) told)
     ∙ no-number (l .inv) (turn .loop-test .taken) (found _ (l .used) (l .inv .within) (read .read .ensures) told)
-
-argument-of-requires : tie.Need-argument-of-requires Inv-loop μ-loop
-argument-of-requires c κs = search needs
-
-argument-limit-requires : tie.Need-argument-limit-requires Inv-loop μ-loop
-argument-limit-requires c κs = search needs
-
-refused-requires-2 : tie.Need-refused-requires-2 Inv-loop μ-loop
-refused-requires-2 c κs = search needs
 
 returns-2 : tie.Need-returns-2 Inv-loop μ-loop
 returns-2 c =
@@ -125,6 +98,7 @@ returns-3 c = all-read (c .before .loop .inv) (schema-size _) (c .loop-test .lef
 pub read-arguments-spec : {M : Type 1} → statement M
 read-arguments-spec =
     tie.close
-    (tie.spec Inv-loop μ-loop packed-schema-requires loop-holds sub-read part-read-start part-read-end read-requires enum-known-found enum-told
-    number-refusal-requires refused-requires returns argument-of-requires argument-limit-requires refused-requires-2 returns-2 mul-values
-    array-write-values add-count add-used loop-less loop-again returns-3)
+    (tie.spec Inv-loop μ-loop (λ c κs. search needs) loop-holds sub-read part-read-start part-read-end
+    (λ c κs. search needs) (λ c. search needs) (λ c. search needs) (λ c κs. search needs) (λ c κs. search needs) returns
+    (λ c κs. search needs) (λ c κs. search needs) (λ c κs. search needs) returns-2 mul-values array-write-values
+    add-count add-used loop-less loop-again returns-3)

@@ -11,30 +11,6 @@ use Rattle.requests.specs.Request.{remainderOf}
 use Rattle.requests.proofs.request.remainder.Statement.{statement}
 use Rattle.requests.proofs.request.remainder.Tie as tie
 
-enum-known-found : tie.Need-enum-known-found
-enum-known-found c = search needs
-
-sub-result : tie.Need-sub-result
-sub-result c = search needs
-
-part-result-start : tie.Need-part-result-start
-part-result-start c = search needs
-
-part-result-end : tie.Need-part-result-end
-part-result-end c = search needs
-
-sub-result-2 : tie.Need-sub-result-2
-sub-result-2 c = search needs
-
-part-result-start-2 : tie.Need-part-result-start-2
-part-result-start-2 c = search needs
-
-part-result-end-2 : tie.Need-part-result-end-2
-part-result-end-2 c = search needs
-
-enum-told : tie.Need-enum-told
-enum-told c = search needs
-
 returns : tie.Need-returns
 returns c =
     let s = now (c .before .before .before .before .before .args .s) in
@@ -51,8 +27,8 @@ returns-2 c =
     ap (take (n - n)) (drop-of-length-le s {i = n} (omega arith)) ∙ take-nil (n - n)
     ∙ sym (drop-of-length-le s {i = k} (omega arith)) ∙ ap (remainderOf s) (sym (found .1))
 
-returns-3 : tie.Need-returns-3
-returns-3 c = search needs
-
 pub remainder-spec : {M : Type 1} → statement M
-remainder-spec = tie.close (tie.spec enum-known-found sub-result part-result-start part-result-end sub-result-2 part-result-start-2 part-result-end-2 enum-told returns returns-2 returns-3)
+remainder-spec =
+    tie.close
+    (tie.spec (λ c. search needs) (λ c. search needs) (λ c. search needs) (λ c. search needs) (λ c. search needs)
+    (λ c. search needs) (λ c. search needs) (λ c. search needs) returns returns-2 (λ c. search needs))

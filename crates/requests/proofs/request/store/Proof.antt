@@ -17,15 +17,6 @@ Inv-loop out₀ kind values left₀ at₀ i₀ out left at i = Putting (schema k
 abbrev μ-loop : tie.MeasureT-loop
 μ-loop out₀ kind values left₀ at₀ i₀ out left at i = left
 
-numbers-of-requires : tie.Need-numbers-of-requires Inv-loop μ-loop
-numbers-of-requires c κs = search needs
-
-packed-schema-requires : tie.Need-packed-schema-requires Inv-loop μ-loop
-packed-schema-requires c κs = search needs
-
-write-at-requires : tie.Need-write-at-requires Inv-loop μ-loop
-write-at-requires c κs = search needs
-
 loop-holds : tie.Need-loop-holds Inv-loop μ-loop
 loop-holds c =
     let write = c .before .before .write-at in
@@ -44,9 +35,6 @@ mul-write-at c = omega (arith, within (c .before .loop .inv .left-is) (c .loop-t
 
 array-read-write-at : tie.Need-array-read-write-at Inv-loop μ-loop
 array-read-write-at c = within (c .before .loop .inv .left-is) (c .loop-test .taken) (schema-size _)
-
-write-at-requires-2 : tie.Need-write-at-requires-2 Inv-loop μ-loop
-write-at-requires-2 c κs = search needs
 
 add-i : tie.Need-add-i Inv-loop μ-loop
 add-i c =
@@ -77,5 +65,5 @@ returns c =
 pub store-spec : {M : Type 1} → statement M
 store-spec =
     tie.close
-    (tie.spec Inv-loop μ-loop numbers-of-requires packed-schema-requires write-at-requires loop-holds mul-write-at array-read-write-at
-    write-at-requires-2 add-i loop-less loop-again same-length returns)
+    (tie.spec Inv-loop μ-loop (λ c κs. search needs) (λ c κs. search needs) (λ c κs. search needs) loop-holds
+    mul-write-at array-read-write-at (λ c κs. search needs) add-i loop-less loop-again same-length returns)

@@ -7,28 +7,16 @@ use Rattle.requests.proofs.request.Writing.{past-limit, no-room, all-wr
 use Rattle.requests.proofs.request.write.Statement.{statement}
 use Rattle.requests.proofs.request.write.Tie as tie
 
-limit-requires : tie.Need-limit-requires
-limit-requires c κs = search needs
-
 returns : tie.Need-returns
 returns c =
     let a = c .before .before .before .args in
     past-limit (a .request) (now (a .out)) (c .before .limit .ensures) (c .if1 .taken)
-
-len-requires : tie.Need-len-requires
-len-requires c κs = search needs
 
 returns-2 : tie.Need-returns-2
 returns-2 c =
     let x = c .before .before in
     let a = x .before .before .before .args in
     no-room (a .request) (now (a .out)) (x .before .limit .ensures) (x .if1 .left) (omega (arith, c .before .len .ensures))
-
-store-requires : tie.Need-store-requires
-store-requires c κs = search needs
-
-same-length : tie.Need-same-length
-same-length c = search needs
 
 returns-3 : tie.Need-returns-3
 returns-3 c =
@@ -39,4 +27,7 @@ returns-3 c =
     (omega (arith, y .before .len .ensures)) (c .before .before .store .ensures)
 
 pub write-spec : {M : Type 1} → statement M
-write-spec = tie.close (tie.spec limit-requires returns len-requires returns-2 store-requires same-length returns-3)
+write-spec =
+    tie.close
+    (tie.spec (λ c κs. search needs) returns (λ c κs. search needs) returns-2 (λ c κs. search needs) (λ c. search needs)
+    returns-3)

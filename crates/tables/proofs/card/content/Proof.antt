@@ -6,14 +6,10 @@ use borrow.Author.Needs.{needs}
 use Rattle.tables.proofs.card.content.Statement.{statement}
 use Rattle.tables.proofs.card.content.Tie as tie
 
-title-half-requires : tie.Need-title-half-requires
-title-half-requires c κs = search needs
-
-content-id-requires : tie.Need-content-id-requires
-content-id-requires c κs = search needs
-
 returns : tie.Need-returns
 returns c = c .content-id .ensures ∙ ap idOf (c .before .title-half .ensures)
 
 pub content-spec : {M : Type 1} → statement M
-content-spec = tie.close (tie.spec title-half-requires content-id-requires returns)
+content-spec =
+    tie.close
+    (tie.spec (λ c κs. search needs) (λ c κs. search needs) returns)

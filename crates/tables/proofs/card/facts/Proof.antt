@@ -6,17 +6,10 @@ use borrow.Author.Needs.{needs}
 use Rattle.tables.proofs.card.facts.Statement.{statement}
 use Rattle.tables.proofs.card.facts.Tie as tie
 
-title-half-requires : tie.Need-title-half-requires
-title-half-requires c κs = search needs
-
-rule-half-requires : tie.Need-rule-half-requires
-rule-half-requires c κs = search needs
-
-facts-requires : tie.Need-facts-requires
-facts-requires c κs = search needs
-
 returns : tie.Need-returns
 returns c = c .facts .ensures ∙ ap₂ entryFacts (c .before .before .title-half .ensures) (c .before .rule-half .ensures)
 
 pub facts-spec : {M : Type 1} → statement M
-facts-spec = tie.close (tie.spec title-half-requires rule-half-requires facts-requires returns)
+facts-spec =
+    tie.close
+    (tie.spec (λ c κs. search needs) (λ c κs. search needs) (λ c κs. search needs) returns)

@@ -7,11 +7,10 @@ use borrow.Author.Needs.{needs}
 use Rattle.tables.proofs.card.leaves_key.Statement.{statement}
 use Rattle.tables.proofs.card.leaves_key.Tie as tie
 
-key-requires : tie.Need-key-requires
-key-requires c κs = search needs
-
 returns : tie.Need-returns
 returns c = ap (eqb (c .before .before .args .filler % 2 ^ 56)) (c .key .ensures)
 
 pub leaves-key-spec : {M : Type 1} → statement M
-leaves-key-spec = tie.close (tie.spec key-requires returns)
+leaves-key-spec =
+    tie.close
+    (tie.spec (λ c κs. search needs) returns)

@@ -6,14 +6,10 @@ use borrow.Author.Needs.{needs}
 use Rattle.tables.proofs.card.leaves_sti_key.Statement.{statement}
 use Rattle.tables.proofs.card.leaves_sti_key.Tie as tie
 
-rule-half-requires : tie.Need-rule-half-requires
-rule-half-requires c κs = search needs
-
-leaves-key-requires : tie.Need-leaves-key-requires
-leaves-key-requires c κs = search needs
-
 returns : tie.Need-returns
 returns c = c .leaves-key .ensures ∙ ap (leavesKey (c .before .before .before .args .filler)) (c .before .rule-half .ensures)
 
 pub leaves-sti-key-spec : {M : Type 1} → statement M
-leaves-sti-key-spec = tie.close (tie.spec rule-half-requires leaves-key-requires returns)
+leaves-sti-key-spec =
+    tie.close
+    (tie.spec (λ c κs. search needs) (λ c κs. search needs) returns)

@@ -6,14 +6,10 @@ use borrow.Author.Needs.{needs}
 use Rattle.tables.proofs.card.leaves_title_key.Statement.{statement}
 use Rattle.tables.proofs.card.leaves_title_key.Tie as tie
 
-title-half-requires : tie.Need-title-half-requires
-title-half-requires c κs = search needs
-
-leaves-key-requires : tie.Need-leaves-key-requires
-leaves-key-requires c κs = search needs
-
 returns : tie.Need-returns
 returns c = c .leaves-key .ensures ∙ ap (leavesKey (c .before .before .before .args .filler)) (c .before .title-half .ensures)
 
 pub leaves-title-key-spec : {M : Type 1} → statement M
-leaves-title-key-spec = tie.close (tie.spec title-half-requires leaves-key-requires returns)
+leaves-title-key-spec =
+    tie.close
+    (tie.spec (λ c κs. search needs) (λ c κs. search needs) returns)

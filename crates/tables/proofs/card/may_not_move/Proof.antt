@@ -12,21 +12,12 @@ use Rattle.calls.specs.Buffers.{ruleAt}
 use Rattle.tables.proofs.card.may_not_move.Statement.{statement}
 use Rattle.tables.proofs.card.may_not_move.Tie as tie
 
-rule-half-requires : tie.Need-rule-half-requires
-rule-half-requires c κs = search needs
-
-trigger-requires : tie.Need-trigger-requires
-trigger-requires c κs = search needs
-
 returns : tie.Need-returns
 unfolding entryFacts
 returns c = λ title.
     let half = c .before .before in
     let a = half .before .before .args in
     simp (eq-eqb (triggerOf (ruleAt (now (a .rules)) (a .entry .0))) 1 (sym (c .before .trigger .ensures ∙ ap triggerOf (half .rule-half .ensures)) ∙ c .if1 .taken))
-
-rights-requires : tie.Need-rights-requires
-rights-requires c κs = search needs
 
 returns-2 : tie.Need-returns-2
 unfolding entryFacts
@@ -39,4 +30,5 @@ returns-2 c = λ title.
 
 pub may-not-move-spec : {M : Type 1} → statement M
 may-not-move-spec =
-    tie.close (tie.spec rule-half-requires trigger-requires returns rights-requires returns-2)
+    tie.close
+    (tie.spec (λ c κs. search needs) (λ c κs. search needs) returns (λ c κs. search needs) returns-2)

@@ -8,15 +8,6 @@ use Rattle.calls.specs.Buffers.{copyOf}
 use Rattle.tables.proofs.copies.is_copy_at.Statement.{statement}
 use Rattle.tables.proofs.copies.is_copy_at.Tie as tie
 
-title-half-requires : tie.Need-title-half-requires
-title-half-requires c κs = search needs
-
-rule-half-requires : tie.Need-rule-half-requires
-rule-half-requires c κs = search needs
-
-is-copy-of-requires : tie.Need-is-copy-of-requires
-is-copy-of-requires c κs = search needs
-
 returns : tie.Need-returns
 returns c =
     let a = c .before .before .before .before .before .args in
@@ -24,4 +15,5 @@ returns c =
 
 pub is-copy-at-spec : {M : Type 1} → statement M
 is-copy-at-spec =
-    tie.close (tie.spec title-half-requires rule-half-requires is-copy-of-requires returns)
+    tie.close
+    (tie.spec (λ c κs. search needs) (λ c κs. search needs) (λ c κs. search needs) returns)

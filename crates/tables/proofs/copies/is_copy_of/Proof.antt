@@ -14,20 +14,11 @@ returns c = not-held _ _ _ (below-one _ _ (c .if1 .taken))
 returns-2 : tie.Need-returns-2
 returns-2 c = not-held _ _ _ (above-most _ _ (c .before .if1 .left) (c .if2 .taken))
 
-usable-id-requires : tie.Need-usable-id-requires
-usable-id-requires c κs = search needs
-
 returns-3 : tie.Need-returns-3
 returns-3 c = other-id _ _ _ (λ e. c .if3 .taken (c .before .usable-id .ensures ∙ e))
 
-cci-requires : tie.Need-cci-requires
-cci-requires c κs = search needs
-
 returns-4 : tie.Need-returns-4
 returns-4 c = reserved _ _ _ (sym (c .before .cci .ensures) ∙ c .if4 .taken)
-
-usable-requires : tie.Need-usable-requires
-usable-requires c κs = search needs
 
 returns-5 : tie.Need-returns-5
 returns-5 c =
@@ -40,12 +31,5 @@ returns-5 c =
 pub is-copy-of-spec : {M : Type 1} → statement M
 is-copy-of-spec =
     tie.close
-    (tie.spec
-    returns
-    returns-2
-    usable-id-requires
-    returns-3
-    cci-requires
-    returns-4
-    usable-requires
+    (tie.spec returns returns-2 (λ c κs. search needs) returns-3 (λ c κs. search needs) returns-4 (λ c κs. search needs)
     returns-5)

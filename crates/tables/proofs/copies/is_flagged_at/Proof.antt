@@ -10,24 +10,6 @@ use Rattle.formats.proofs.Part.{lent}
 use Rattle.tables.proofs.copies.is_flagged_at.Statement.{statement}
 use Rattle.tables.proofs.copies.is_flagged_at.Tie as tie
 
-mul-a : tie.Need-mul-a
-mul-a c = search needs
-
-add-is-flagged : tie.Need-add-is-flagged
-add-is-flagged c = search needs
-
-sub-is-flagged : tie.Need-sub-is-flagged
-sub-is-flagged c = search needs
-
-part-is-flagged-start : tie.Need-part-is-flagged-start
-part-is-flagged-start c = search needs
-
-part-is-flagged-end : tie.Need-part-is-flagged-end
-part-is-flagged-end c = search needs
-
-is-flagged-requires : tie.Need-is-flagged-requires
-is-flagged-requires c κs = search needs
-
 returns : tie.Need-returns
 returns c =
     let a = c .before .before .before .args in
@@ -36,11 +18,5 @@ returns c =
 pub is-flagged-at-spec : {M : Type 1} → statement M
 is-flagged-at-spec =
     tie.close
-    (tie.spec
-    mul-a
-    add-is-flagged
-    sub-is-flagged
-    part-is-flagged-start
-    part-is-flagged-end
-    is-flagged-requires
-    returns)
+    (tie.spec (λ c. search needs) (λ c. search needs) (λ c. search needs) (λ c. search needs) (λ c. search needs)
+    (λ c κs. search needs) returns)

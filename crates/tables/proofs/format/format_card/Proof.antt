@@ -22,18 +22,6 @@ returns-2 c =
     let e = holds 8 _ _ (eq-eqb _ _ (c .before .if1 .left)) (fails 9 _ _ (λ t. c .if2 .taken (eqb-true _ _ t))) in
     (e, (kept _ _ e (λ z. omega arith), kept _ _ e (λ z. omega arith)))
 
-fresh-table-requires : tie.Need-fresh-table-requires
-fresh-table-requires c κs = search needs
-
-fresh-table-requires-2 : tie.Need-fresh-table-requires-2
-fresh-table-requires-2 c κs = search needs
-
-same-length : tie.Need-same-length
-same-length c = search needs
-
-same-length-2 : tie.Need-same-length-2
-same-length-2 c = search needs
-
 returns-3 : tie.Need-returns-3
 unfolding cardFormatting formattedTitles formattedRules freshTitles freshRules
 returns-3 c =
@@ -45,11 +33,5 @@ returns-3 c =
 pub format-card-spec : {M : Type 1} → statement M
 format-card-spec =
     tie.close
-    (tie.spec
-    returns
-    returns-2
-    fresh-table-requires
-    fresh-table-requires-2
-    same-length
-    same-length-2
+    (tie.spec returns returns-2 (λ c κs. search needs) (λ c κs. search needs) (λ c. search needs) (λ c. search needs)
     returns-3)

@@ -31,57 +31,12 @@ returns-2 c =
     let e = fails 4 _ _ (λ t. let r = numbered-within rows t in omega (arith, r .from, r .to)) in
     (e, kept _ _ e (λ z. omega arith))
 
-add-if3 : tie.Need-add-if3
-add-if3 c = search needs
-
-mul-if3 : tie.Need-mul-if3
-mul-if3 c = search needs
-
 returns-3 : tie.Need-returns-3
 unfolding ledgerFormatting formattedLedger
 returns-3 c =
     let rows = c .before .before .before .before .args .rows in
     let e = holds 4 _ _ (within-numbered rows (omega arith) (omega arith)) (fails 7 _ _ (λ t. c .if3 .taken (eqb-true _ _ t))) in
     (e, kept _ _ e (λ z. omega arith))
-
-sub-write : tie.Need-sub-write
-sub-write c = search needs
-
-part-write-start : tie.Need-part-write-start
-part-write-start c = search needs
-
-part-write-end : tie.Need-part-write-end
-part-write-end c = search needs
-
-write-requires : tie.Need-write-requires
-write-requires c κs = search needs
-
-sub-write-2 : tie.Need-sub-write-2
-sub-write-2 c = search needs
-
-part-write-start-2 : tie.Need-part-write-start-2
-part-write-start-2 c = search needs
-
-part-write-end-2 : tie.Need-part-write-end-2
-part-write-end-2 c = search needs
-
-write-requires-2 : tie.Need-write-requires-2
-write-requires-2 c κs = search needs
-
-sub-clear : tie.Need-sub-clear
-sub-clear c = search needs
-
-part-clear-start : tie.Need-part-clear-start
-part-clear-start c = search needs
-
-part-clear-end : tie.Need-part-clear-end
-part-clear-end c = search needs
-
-clear-requires : tie.Need-clear-requires
-clear-requires c κs = search needs
-
-same-length : tie.Need-same-length
-same-length c = search needs
 
 returns-4 : tie.Need-returns-4
 unfolding ledgerFormatting formattedLedger freshLedger bytesOf
@@ -98,23 +53,7 @@ returns-4 c =
 pub format-ledger-spec : {M : Type 1} → statement M
 format-ledger-spec =
     tie.close
-    (tie.spec
-    returns
-    returns-2
-    add-if3
-    mul-if3
-    returns-3
-    sub-write
-    part-write-start
-    part-write-end
-    write-requires
-    sub-write-2
-    part-write-start-2
-    part-write-end-2
-    write-requires-2
-    sub-clear
-    part-clear-start
-    part-clear-end
-    clear-requires
-    same-length
-    returns-4)
+    (tie.spec returns returns-2 (λ c. search needs) (λ c. search needs) returns-3 (λ c. search needs)
+    (λ c. search needs) (λ c. search needs) (λ c κs. search needs) (λ c. search needs) (λ c. search needs)
+    (λ c. search needs) (λ c κs. search needs) (λ c. search needs) (λ c. search needs) (λ c. search needs)
+    (λ c κs. search needs) (λ c. search needs) returns-4)

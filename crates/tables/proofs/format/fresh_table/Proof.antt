@@ -12,59 +12,17 @@ use borrow.Author.Needs.{needs}
 use Rattle.tables.proofs.format.fresh_table.Statement.{statement}
 use Rattle.tables.proofs.format.fresh_table.Tie as tie
 
-sub-write : tie.Need-sub-write
-sub-write c = search needs
-
-part-write-start : tie.Need-part-write-start
-part-write-start c = search needs
-
-part-write-end : tie.Need-part-write-end
-part-write-end c = search needs
-
-write-requires : tie.Need-write-requires
-write-requires c κs = search needs
-
-slice-write-table : tie.Need-slice-write-table
-slice-write-table c = search needs
-
 slice-write-table-2 : tie.Need-slice-write-table-2
 slice-write-table-2 c = simp length-set (omega arith)
-
-sub-write-2 : tie.Need-sub-write-2
-sub-write-2 c = search needs
-
-part-write-start-2 : tie.Need-part-write-start-2
-part-write-start-2 c = search needs
 
 part-write-end-2 : tie.Need-part-write-end-2
 part-write-end-2 c = simp length-set (omega arith)
 
-write-requires-2 : tie.Need-write-requires-2
-write-requires-2 c κs = search needs
-
-sub-write-3 : tie.Need-sub-write-3
-sub-write-3 c = search needs
-
-part-write-start-3 : tie.Need-part-write-start-3
-part-write-start-3 c = search needs
-
 part-write-end-3 : tie.Need-part-write-end-3
 part-write-end-3 c = omega (arith, simp length-set at (c .before .table2 .given .1))
 
-write-requires-3 : tie.Need-write-requires-3
-write-requires-3 c κs = search needs
-
-sub-write-4 : tie.Need-sub-write-4
-sub-write-4 c = search needs
-
-part-write-start-4 : tie.Need-part-write-start-4
-part-write-start-4 c = search needs
-
 part-write-end-4 : tie.Need-part-write-end-4
 part-write-end-4 c = omega (arith, simp length-set at (c .before .before .before .before .before .table2 .given .1), c .before .table3 .given .1)
-
-write-requires-4 : tie.Need-write-requires-4
-write-requires-4 c κs = search needs
 
 slice-write-table-3 : tie.Need-slice-write-table-3
 slice-write-table-3 c = omega (arith, simp length-set at (c .before .before .before .before .before .before .before .before .before .table2 .given .1), c .before .before .before .before .before .table3 .given .1, c .before .table4 .given .1)
@@ -77,12 +35,6 @@ sub-clear c = simp length-set (omega (arith, simp length-set at (c .before .befo
 
 part-clear-start : tie.Need-part-clear-start
 part-clear-start c = simp length-set (omega (arith, simp length-set at (c .before .before .before .before .before .before .before .before .before .table2 .given .1), c .before .before .before .before .before .table3 .given .1, c .before .table4 .given .1))
-
-part-clear-end : tie.Need-part-clear-end
-part-clear-end c = search needs
-
-clear-requires : tie.Need-clear-requires
-clear-requires c κs = search needs
 
 same-length : tie.Need-same-length
 same-length c =
@@ -105,30 +57,8 @@ returns c =
 pub fresh-table-spec : {M : Type 1} → statement M
 fresh-table-spec =
     tie.close
-    (tie.spec
-    sub-write
-    part-write-start
-    part-write-end
-    write-requires
-    slice-write-table
-    slice-write-table-2
-    sub-write-2
-    part-write-start-2
-    part-write-end-2
-    write-requires-2
-    sub-write-3
-    part-write-start-3
-    part-write-end-3
-    write-requires-3
-    sub-write-4
-    part-write-start-4
-    part-write-end-4
-    write-requires-4
-    slice-write-table-3
-    slice-write-table-4
-    sub-clear
-    part-clear-start
-    part-clear-end
-    clear-requires
-    same-length
-    returns)
+    (tie.spec (λ c. search needs) (λ c. search needs) (λ c. search needs) (λ c κs. search needs) (λ c. search needs)
+    slice-write-table-2 (λ c. search needs) (λ c. search needs) part-write-end-2 (λ c κs. search needs)
+    (λ c. search needs) (λ c. search needs) part-write-end-3 (λ c κs. search needs) (λ c. search needs)
+    (λ c. search needs) part-write-end-4 (λ c κs. search needs) slice-write-table-3 slice-write-table-4 sub-clear
+    part-clear-start (λ c. search needs) (λ c κs. search needs) same-length returns)

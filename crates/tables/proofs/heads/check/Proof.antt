@@ -31,25 +31,13 @@ module _ (b : Buffers) where
         holds 7 (ledgerPasses (b .ledger)) _ ledger-right
         (holds 8 (titlesPass (b .titles)) _ (passed (titlesPass (b .titles)) 8 (omega arith) (sym t ∙ y)) (answers-last 9 (rulesPass (b .rules) && eqb (rulesApplication (b .rules)) (ledgerApplication (b .ledger))) (r ∙ ap (λ (n : ℕ). rulesAnswerFor n (b .rules)) m)))
 
-check-ledger-requires : tie.Need-check-ledger-requires
-check-ledger-requires c κs = search needs
-
 returns : tie.Need-returns
 returns c = ledger-wrong _ (c .before .check-ledger .ensures) (c .if1 .taken)
-
-check-titles-requires : tie.Need-check-titles-requires
-check-titles-requires c κs = search needs
 
 returns-2 : tie.Need-returns-2
 returns-2 c =
     let x = c .before .before in
     titles-wrong _ (x .before .check-ledger .ensures) (x .if1 .left) (c .before .check-titles .ensures) (c .if2 .taken)
-
-ledger-application-requires : tie.Need-ledger-application-requires
-ledger-application-requires c κs = search needs
-
-check-rules-for-requires : tie.Need-check-rules-for-requires
-check-rules-for-requires c κs = search needs
 
 returns-3 : tie.Need-returns-3
 returns-3 c =
@@ -61,11 +49,5 @@ returns-3 c =
 pub check-spec : {M : Type 1} → statement M
 check-spec =
     tie.close
-    (tie.spec
-    check-ledger-requires
-    returns
-    check-titles-requires
-    returns-2
-    ledger-application-requires
-    check-rules-for-requires
-    returns-3)
+    (tie.spec (λ c κs. search needs) returns (λ c κs. search needs) returns-2 (λ c κs. search needs)
+    (λ c κs. search needs) returns-3)

@@ -18,9 +18,6 @@ returns : tie.Need-returns
 unfolding stateIn
 returns c = simp (lt-leb 1 (c .before .before .args .content .0) (omega arith))
 
-rows-requires : tie.Need-rows-requires
-rows-requires c κs = search needs
-
 returns-2 : tie.Need-returns-2
 unfolding stateIn
 returns-2 c =
@@ -33,12 +30,6 @@ mul-part c =
     let known = c .before .before .before in
     omega (arith, c .before .rows .ensures, rows-below (now (known .before .args .ledger)) (λ i. known .shared-slice-known .given i .fits))
 
-part-requires : tie.Need-part-requires
-part-requires c κs = search needs
-
-state-requires : tie.Need-state-requires
-state-requires c κs = search needs
-
 returns-3 : tie.Need-returns-3
 unfolding stateIn
 returns-3 c =
@@ -49,4 +40,5 @@ returns-3 c =
 
 pub state-spec : {M : Type 1} → statement M
 state-spec =
-    tie.close (tie.spec returns rows-requires returns-2 mul-part part-requires state-requires returns-3)
+    tie.close
+    (tie.spec returns (λ c κs. search needs) returns-2 mul-part (λ c κs. search needs) (λ c κs. search needs) returns-3)

@@ -17,16 +17,10 @@ returns-2 c =
     let id = c .before .before .before .before .args .content .0 in
     content-refused _ _ _ (λ t. let r = numbered-within id t in omega (arith, r .from, r .to))
 
-check-titles-requires : tie.Need-check-titles-requires
-check-titles-requires c κs = search needs
-
 returns-3 : tie.Need-returns-3
 returns-3 c =
     let id = c .before .before .before .before .before .before .args .content .0 in
     titles-refused _ _ _ (within-numbered id (omega arith) (omega arith)) (c .before .check-titles .ensures) (c .if3 .taken)
-
-check-rules-requires : tie.Need-check-rules-requires
-check-rules-requires c κs = search needs
 
 returns-4 : tie.Need-returns-4
 returns-4 c =
@@ -34,9 +28,6 @@ returns-4 c =
     let id = x .before .before .before .before .before .before .args .content .0 in
     rules-refused _ _ _ (within-numbered id (omega arith) (omega arith)) (titles-passed _ (x .before .check-titles .ensures) (x .if3 .left))
     (c .before .check-rules .ensures) (c .if4 .taken)
-
-count-requires : tie.Need-count-requires
-count-requires c κs = search needs
 
 returns-5 : tie.Need-returns-5
 returns-5 c =
@@ -49,12 +40,5 @@ returns-5 c =
 pub tally-spec : {M : Type 1} → statement M
 tally-spec =
     tie.close
-    (tie.spec
-    returns
-    returns-2
-    check-titles-requires
-    returns-3
-    check-rules-requires
-    returns-4
-    count-requires
+    (tie.spec returns returns-2 (λ c κs. search needs) returns-3 (λ c κs. search needs) returns-4 (λ c κs. search needs)
     returns-5)
