@@ -76,6 +76,7 @@ target/host/requests: host/requests/main.rs $(wildcard host/requests/*.rs)
 # What the documents refer to is in the source. After an edit, host/docs/check.sh --update sets their line numbers anew.
 references:
 	host/docs/check.sh
+	host/docs/test.sh
 
 # Proving and building takes a few minutes, once.
 target/bin/counter:
