@@ -1,7 +1,7 @@
 # The checks of check.sh, which says what they are. The input is the documents; `update` is 1 where line numbers are to be set.
 
 function fail(text) {
-    print document ":" FNR ": " text
+    print document (FNR ? ":" FNR : "") ": " text
     failed = 1
     exit 1
 }
@@ -19,7 +19,7 @@ function words_of(text, words) {
 
 # Takes a file of Rattle or of the prover in: declared[file, name] is the first line that declares a name, which is `pub NAME`
 # with `abbrev`, `unfoldable`, `record` or `data`, or `fn NAME` and other items of Rattle; stands[file, line, name] is 1 for
-# every word of a line.
+# every word of a line; defined[file, name] is 1 for a definition, which is a `pub` at the start of its line.
 function take_in(file,    text, line, words, count, i, item, words_before) {
     if (file in taken) return
     taken[file] = 1
@@ -32,6 +32,7 @@ function take_in(file,    text, line, words, count, i, item, words_before) {
             stands[file, line, words[i]] = 1
             if (!words_before) continue
             if (item && !((file, words[i]) in declared)) declared[file, words[i]] = line
+            if (item && text ~ /^[a-z]/ && words[i] !~ /^(record|data|mod)$/) defined[file, words[i]] = 1
             if (words[i] ~ /^(pub|fn|struct|enum|const)$/) item = 1
             else if (words[i] !~ /^(abbrev|unfoldable|record|data|extern|"C")$/) words_before = 0
         }
@@ -42,6 +43,7 @@ function take_in(file,    text, line, words, count, i, item, words_before) {
 # A name that a place `file:line` has beside it. Answers the line that is right.
 function check_reference(file, line, name) {
     references++
+    if (document == "docs/TRUST.md") listed[file, name] = 1
     if (!exists(file)) fail("there is no file " file)
     take_in(file)
     if ((file, name) in declared) {
@@ -156,6 +158,16 @@ function check_line(text,    parts, count, i, file, line, between, fresh) {
     return fresh
 }
 
+# Every definition is listed in docs/TRUST.md, but for the parts of examples.
+function check_listed(    file, key, parts) {
+    while (("ls crates/*/specs/*.antt" | getline file) > 0) take_in(file)
+    for (key in defined) {
+        split(key, parts, SUBSEP)
+        if (parts[1] !~ /\/specs\// || parts[1] ~ /\/(Examples|SampleRun|Lib)\.antt$/) continue
+        if (!(key in listed)) fail(parts[2] " of " parts[1] " is not listed")
+    }
+}
+
 function store(    i) {
     if (update) for (i = 1; i <= length_of_document; i++) print lines[i] > document
     close(document)
@@ -176,5 +188,9 @@ FNR == 1 {
 END {
     if (failed) exit 1
     store()
+    document = "docs/TRUST.md"
+    FNR = 0
+    if (whole) check_listed()
+    if (failed) exit 1
     print "documents: " references " references to lines, " places " to files, items and headings"
 }

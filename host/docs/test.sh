@@ -46,6 +46,12 @@ wrong '[a](none.md)' "there is no $folder/none.md"
 wrong '`a` ![b](none.svg)' "there is no $folder/none.svg"
 wrong '[a](#another-heading)' "$document has no heading for #another-heading"
 
+# Without docs/TRUST.md no definition is listed.
+if awk -v update=0 -v whole=1 -f host/docs/check.awk README.md > "$folder/said" || ! grep -q ' is not listed$' "$folder/said"; then
+    printf 'unlisted definitions were met with\n%s\n' "$(cat "$folder/said")"
+    exit 1
+fi
+
 # --update sets the lines, all of them, and leaves the rest.
 printf 'a `b` `%s:1` | `part`, `%s:%d` `part`, `%s:2` `put` c `d\n' $place $place "$line" $place > "$document"
 host/docs/check.sh --update "$document" > /dev/null
@@ -54,4 +60,4 @@ put=$(grep -n '^unfoldable pub put ' $place | cut -d: -f1)
     echo "--update made $(cat "$document")"
     exit 1
 }
-echo "the check of the documents: $((tried + 1)) tried"
+echo "the check of the documents: $((tried + 2)) tried"
