@@ -24,9 +24,10 @@ till: target/host/till target/host/till-test
 	target/host/till | cmp - examples/till.txt
 	target/host/till-test
 
-# The header's constants and texts are those of the source, one by one.
+# The header's constants and texts are those of the source, one by one, and comments have the answers of the definitions.
 constants:
 	host/till/constants.sh $(wildcard crates/*/src/refusal.rt)
+	host/till/answers.sh
 
 C = $(CC) -std=c11 -Wall -Wextra -pedantic -Werror -Iinclude
 GUARDS = -g -fsanitize=address,undefined -fno-sanitize-recover=all
