@@ -1,12 +1,12 @@
 # make demo: the counter on document 01's example. make test: every test, and the proofs last.
 # make bench: the library against plain C. make plot: a picture of what it measured.
-.PHONY: demo test expected till compare soak programs requests references history bench plot
+.PHONY: demo test expected till constants compare soak programs requests references history bench plot
 .PHONY: target/staticlib/libtill.a target/bin/counter
 
 demo: target/bin/counter
 	@$< < crates/counter/stdin
 
-test: expected till compare requests references programs
+test: expected till constants compare requests references programs
 	rt fmt --check
 	rt ci
 
@@ -23,6 +23,11 @@ target/host/edges: host/edges/main.rs host/edges/calls.rs
 till: target/host/till target/host/till-test
 	target/host/till | cmp - examples/till.txt
 	target/host/till-test
+
+# The header's constants and texts are those of the source, one by one, and comments have the answers of the definitions.
+constants:
+	host/till/constants.sh $(wildcard crates/*/src/refusal.rt)
+	host/till/answers.sh
 
 C = $(CC) -std=c11 -Wall -Wextra -pedantic -Werror -Iinclude
 GUARDS = -g -fsanitize=address,undefined -fno-sanitize-recover=all
@@ -69,13 +74,14 @@ ANSWERED = target/host/requests bytes $(HISTORY) | target/bin/counter | target/h
 requests: target/host/requests
 	host/requests/test.sh $<
 
-target/host/requests: host/requests/main.rs $(wildcard host/requests/*.rs)
+target/host/requests: host/requests/main.rs $(wildcard host/requests/*.rs) include/music_counter.h
 	@mkdir -p target/host
 	rustc --edition 2021 -O -o $@ $<
 
 # What the documents refer to is in the source. After an edit, host/docs/check.sh --update sets their line numbers anew.
 references:
 	host/docs/check.sh
+	host/docs/test.sh
 
 # Proving and building takes a few minutes, once.
 target/bin/counter:

@@ -38,8 +38,10 @@
  * THE ANSWER
  *
  * Every function answers a number: COUNTER_DONE (0), or the number of a refusal. A refusal changes no byte of any buffer.
- * Tests go in the order of the numbers, and the first that fails is the answer; each function's comment has its numbers in
- * the order tested. counter_text names a number in words.
+ * The first test that fails gives the answer, and each function's comment has its numbers in the order tested. The seven
+ * calls, formatting and tally test in the order of the numbers. Reading a request does not: it tests each number of the
+ * request for 1, for 2 and for its own limit (3 to 6) before it reads the next. Writing one tests its kind and arguments
+ * in their order (3 to 6), and 1 last. counter_text names a number in words.
  *
  * FACTS AND FILLERS
  *
@@ -74,22 +76,22 @@ extern "C" {
 /* The answers. 1 to 3 are about request bytes; only the functions that read and write requests have them. */
 enum {
     COUNTER_DONE = 0,           /* done */
-    COUNTER_TOO_SHORT = 1,      /* request bytes end inside a request, or there is no room to write one */
-    COUNTER_NUMBER = 2,         /* a number in request bytes is not in its shortest form, or above 2^64 - 1 */
-    COUNTER_KIND = 3,           /* a request's kind is not 1 to 7 */
-    COUNTER_CONTENT_ID = 4,     /* content ID not 1 to 999 (in formatting: rows) */
+    COUNTER_TOO_SHORT = 1,      /* request bytes end too early, or too little room for them */
+    COUNTER_NUMBER = 2,         /* a number that is not in its shortest form or too large */
+    COUNTER_KIND = 3,           /* no such kind of request */
+    COUNTER_CONTENT_ID = 4,     /* content ID (in formatting: rows) not 1 to 999 */
     COUNTER_ENTRY_NUMBER = 5,   /* entry number not 1 to 999 */
     COUNTER_FACTS = 6,          /* a fact out of range */
     COUNTER_LEDGER = 7,         /* ledger length or head wrong */
     COUNTER_TITLES = 8,         /* title table length or head wrong */
-    COUNTER_RULES = 9,          /* rule table length or head wrong, or another application's card */
-    COUNTER_KIND_OF_ENTRY = 10, /* the entry is not of the kind that the call needs */
-    COUNTER_STATE_OF_ROW = 11,  /* the row is above R, or not in the state that the call needs */
-    COUNTER_NOTHING_LEFT = 12,  /* check-out with permits 0; move with trigger 1 or rights 0 */
-    COUNTER_HASH = 13,          /* move out: the hash is not the stored C_HASH */
-    COUNTER_COPY_OUT = 14,      /* move in: a copy of the title is on the card */
-    COUNTER_PERMITS_FULL = 15,  /* check-in: permits are 14 already */
-    COUNTER_FILLER = 16         /* a filler would leave the key that it is to overwrite */
+    COUNTER_RULES = 9,          /* rule table length, head or application number wrong */
+    COUNTER_KIND_OF_ENTRY = 10, /* entry not of the kind needed */
+    COUNTER_STATE_OF_ROW = 11,  /* row above R or not in the state needed */
+    COUNTER_NOTHING_LEFT = 12,  /* no permit left, no move right left, or the trigger is set */
+    COUNTER_HASH = 13,          /* hash differs from the stored one */
+    COUNTER_COPY_OUT = 14,      /* a copy of the title is on the card */
+    COUNTER_PERMITS_FULL = 15,  /* permits are 14 already */
+    COUNTER_FILLER = 16         /* a filler would leave a key in place */
 };
 
 /* An answer in words. */

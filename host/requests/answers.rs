@@ -1,4 +1,4 @@
-//! What the counter answers: the paper's numbers, in the words of include/music_counter.h.
+//! What the counter answers: the numbers by name, and their texts, which are those of include/music_counter.h.
 
 pub const TOO_SHORT: u64 = 1;
 pub const NUMBER: u64 = 2;
@@ -7,29 +7,19 @@ pub const CONTENT_ID: u64 = 4;
 pub const ENTRY_NUMBER: u64 = 5;
 pub const FACTS: u64 = 6;
 
-const TEXTS: [&str; 17] = [
-    "done",
-    "request bytes end too early, or too little room for them",
-    "a number that is not in its shortest form or too large",
-    "no such kind of request",
-    "content ID (in formatting: rows) not 1 to 999",
-    "entry number not 1 to 999",
-    "a fact out of range",
-    "ledger length or head wrong",
-    "title table length or head wrong",
-    "rule table length, head or application number wrong",
-    "entry not of the kind needed",
-    "row above R or not in the state needed",
-    "no permit left, no move right left, or the trigger is set",
-    "hash differs from the stored one",
-    "a copy of the title is on the card",
-    "permits are 14 already",
-    "a filler would leave a key in place",
-];
+const HEADER: &str = include_str!("../../include/music_counter.h");
 
-/// An answer in words, where the counter has such an answer.
+/// An answer in words, where the counter has such an answer: `COUNTER_NAME = N,` has its name, and `case COUNTER_NAME: return
+/// "text";` the text.
 pub fn known_text(answer: u64) -> Option<&'static str> {
-    TEXTS.get(usize::try_from(answer).ok()?).copied()
+    let number = answer.to_string();
+    let name = HEADER.lines().find_map(|line| {
+        let (name, value) = line.trim().split_once(" = ")?;
+        let digits = value.split(|c: char| !c.is_ascii_digit()).next()?;
+        (name.starts_with("COUNTER_") && digits == number).then_some(name)
+    })?;
+    let case = format!("case {name}: return \"");
+    HEADER.lines().find_map(|line| line.trim().strip_prefix(&case)?.strip_suffix("\";"))
 }
 
 pub fn text(answer: u64) -> &'static str {

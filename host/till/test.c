@@ -1104,15 +1104,12 @@ static void faulty_requests(void)
     writes(__LINE__, NULL, 1, written[2].arguments, 6);
 }
 
+/* What the texts are, host/till/constants.sh compares. */
 static void texts(void)
 {
-    for (uint64_t i = 0; i <= 17; i++)
-        for (uint64_t k = 0; k < i; k++)
-            same(__LINE__, "text", "differs", strcmp(counter_text(i), counter_text(k)) != 0, 1);
+    for (uint64_t i = 0; i <= 16; i++)
+        same(__LINE__, "text", "differs", strcmp(counter_text(i), counter_text(17)) != 0, 1);
     same(__LINE__, "text", "differs", strcmp(counter_text(17), counter_text(TOP)) != 0, 0);
-    same(__LINE__, "sizes", "ledger", COUNTER_LEDGER_SIZE(999), 24000);
-    same(__LINE__, "sizes", "titles", COUNTER_TITLES_SIZE, 16 * 1000);
-    same(__LINE__, "sizes", "rules", COUNTER_RULES_SIZE, 32 * 1000);
 }
 
 int main(void)
