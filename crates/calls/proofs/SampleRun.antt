@@ -4,7 +4,7 @@
 use Prim.Native.Nat.{ℕ, _≤_}
 use mathlib.Core.Path.{_≡_, refl, sym, ap, ap₂, _∙_}
 use mathlib.Core.Logic.{_≢_, _⊎_, inl, inr}
-use mathlib.Core.List.{List, [], _∷_}
+use mathlib.Core.List.{List, [], _∷_, _++_, map, append-nil, append-assoc}
 use mathlib.Core.Option.{some}
 use native.Mathlib.Omega.{arith}
 use native.Mathlib.Decide.{ℕ-discrete}
@@ -16,7 +16,8 @@ use Rattle.formats.specs.declared.row.RowState.the-variants.{Empty, Here, Away}
 use Rattle.requests.specs.declared.request.Request.{Request}
 use Rattle.calls.specs.Buffers.{Buffers, titleAt, ruleAt, stateAt, rowFacts, hereFacts, kindAt, contentAt, factsAt, titleKey, stiKey, fresh, Within}
 use Rattle.calls.specs.Count.{oneLess, oneMore}
-use Rattle.calls.specs.Perform.{perform, answers, AreBytes}
+use Rattle.calls.specs.Perform.{perform, AreBytes}
+use Rattle.calls.specs.History.{Answered, Log, Run, next, run, from, inOrder, answers}
 use Rattle.calls.specs.Needs.{FactsInRange, MayMove, Needs}
 use Rattle.calls.specs.Untouched.{titleWritten}
 use Rattle.calls.specs.Work.{RowIs, Recounted, PermitsBecome, FullEntry}
@@ -132,18 +133,29 @@ record Goes (k : Request) (b : Buffers) (P : Buffers → Type 0) : Type 0 where
   done : perform k b .answer ≡ 0
   after : P (perform k b .buffers)
 
+-- answers one after another: those of the rest come after the first
+in-turn : (ks : List Request) (w : Run) → inOrder (run ks w .log) ≡ inOrder (w .log) ++ inOrder (run ks (from (w .buffers)) .log)
+unfolding run inOrder
+in-turn [] w = sym (append-nil _)
+in-turn (k ∷ ks) w =
+    in-turn ks (next k w)
+    ∙ append-assoc (inOrder (w .log)) _ _
+    ∙ ap (λ (l : Log). inOrder (w .log) ++ l) (sym (in-turn ks (next k (from (w .buffers)))))
+
+answers-next : (k : Request) (ks : List Request) (b : Buffers) → answers (k ∷ ks) b ≡ perform k b .answer ∷ answers ks (perform k b .buffers)
+unfolding run inOrder
+answers-next k ks b = ap (map (λ (a : Answered). a .answer)) (in-turn ks (next k (from b)))
+
 -- and so are those after it
 on : (k : Request) (ks : List Request) (b : Buffers) {P : Buffers → Type 0} {ns : List ℕ} → Goes k b P → ((c : Buffers) → P c → answers ks c ≡ ns) → answers (k ∷ ks) b ≡ 0 ∷ ns
-unfolding answers
-on k ks b g rest = ap₂ (λ (x : ℕ) (l : List ℕ). x ∷ l) (g .done) (rest (perform k b .buffers) (g .after))
+on k ks b g rest = answers-next k ks b ∙ ap₂ (λ (x : ℕ) (l : List ℕ). x ∷ l) (g .done) (rest (perform k b .buffers) (g .after))
 
 -- a refused call leaves what it found
 on-refused : (k : Request) (ks : List Request) (b : Buffers) {n : ℕ} {ns : List ℕ} → perform k b .answer ≡ n → n ≢ 0 → answers ks b ≡ ns → answers (k ∷ ks) b ≡ n ∷ ns
-unfolding answers
-on-refused k ks b e other rest = ap₂ (λ (x : ℕ) (l : List ℕ). x ∷ l) e (ap (answers ks) (unchanged k b (λ z. other (sym e ∙ z))) ∙ rest)
+on-refused k ks b e other rest = answers-next k ks b ∙ ap₂ (λ (x : ℕ) (l : List ℕ). x ∷ l) e (ap (answers ks) (unchanged k b (λ z. other (sym e ∙ z))) ∙ rest)
 
 last : (k : Request) (b : Buffers) → perform k b .answer ≡ 0 → answers (k ∷ []) b ≡ 0 ∷ []
-unfolding answers
+unfolding run inOrder
 last k b e = ap (λ (x : ℕ). x ∷ []) e
 
 -- 1 register, on a fresh ledger and card: its row is here, other rows are empty, and no entry is in use

@@ -3,7 +3,7 @@
 use Prim.Native.Nat.{ℕ, _+_, _≤_}
 use mathlib.Core.Path.{_≡_}
 use mathlib.Core.Logic.{_≢_}
-use mathlib.Core.List.{List, [], _∷_}
+use mathlib.Core.List.{List, [], _∷_, _++_, map}
 use mathlib.Core.Option.{Option, none, some}
 use mathlib.Core.Bool.{Bool, _&&_, cond}
 use lib.Dec.{eqb}
@@ -46,8 +46,21 @@ unfoldable pub run : List Request → Run → Run
 run [] w = w
 run (k ∷ ks) w = run ks (next k w)
 
+-- no call yet
+abbrev pub from : Buffers → Run
+from b = record { log = []; buffers = b }
+
 abbrev pub start : ℕ → ℕ → ℕ → Run
-start rows application cardApplication = record { log = []; buffers = fresh rows application cardApplication }
+start rows application cardApplication = from (fresh rows application cardApplication)
+
+-- a log in the order of its calls
+unfoldable pub inOrder : Log → Log
+inOrder [] = []
+inOrder (a ∷ log) = inOrder log ++ (a ∷ [])
+
+-- the answers of calls one after another
+abbrev pub answers : List Request → Buffers → List ℕ
+answers ks b = map (λ a. a .answer) (inOrder (run ks (from b) .log))
 
 -- THE COUNTS, from the log
 

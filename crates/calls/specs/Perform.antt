@@ -26,11 +26,6 @@ refusal k b = first (conditions k b)
 unfoldable pub perform : Request → Buffers → Performed
 perform k b = record { answer = refusal k b; buffers = cond (eqb (refusal k b) 0) (effect k b) b }
 
--- the answers of calls, each carried out on what the one before it left
-unfoldable pub answers : List Request → Buffers → List ℕ
-answers [] b = []
-answers (k ∷ ks) b = perform k b .answer ∷ answers ks (perform k b .buffers)
-
 -- the numbers that each call can be answered with, "in number order over what it takes"
 abbrev pub checked : Request → List ℕ
 checked (Register c f) = 4 ∷ 6 ∷ 7 ∷ 11 ∷ []

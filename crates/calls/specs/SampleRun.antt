@@ -8,7 +8,7 @@ use Rattle.formats.specs.declared.facts.Fillers.{Fillers}
 use Rattle.requests.specs.declared.request.Request.{Request}
 use Rattle.requests.specs.declared.request.Request.the-variants.{Register, Record, CheckIn, MoveOut, MoveIn, Delete}
 use Rattle.calls.specs.Buffers.{fresh}
-use Rattle.calls.specs.Perform.{answers}
+use Rattle.calls.specs.History.{answers}
 use Rattle.calls.specs.Examples.{checkOut}
 
 -- the facts of title 1: CCI 2, trigger 0, one right, one permit, keys 5 and 6

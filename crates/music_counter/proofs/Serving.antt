@@ -1,20 +1,22 @@
 -- A stream of requests: one after another, to its end or to its first fault.
 -- Assumes nothing.
-use Prim.Native.Nat.{ℕ, zero, suc, _≤_, _<_}
-use mathlib.Core.Path.{_≡_, refl, sym, ap, _∙_}
-use mathlib.Core.List.{List, [], _∷_}
+use Prim.Native.Nat.{ℕ, zero, suc, _+_, _≤_, _<_}
+use mathlib.Core.Path.{_≡_, refl, sym, ap, ap₂, _∙_}
+use mathlib.Core.List.{List, [], _∷_, _++_, map, map-append}
 use native.Mathlib.Omega.{arith}
-use lib.ListN.{length, drop, length-drop}
-use Rattle.requests.specs.Request.{readRequest, requestAnswer}
+use native.Mathlib.Numerals.{add-one}
+use lib.ListN.{length, drop, set, length-drop, length-append, length-set, length-map}
+use Rattle.requests.specs.Request.{readRequest, requestAnswer, kindOf}
 use Rattle.requests.specs.declared.request.Request.{Request}
 use Rattle.requests.specs.declared.request.RequestRead.{RequestRead}
 use Rattle.requests.specs.declared.request.RequestRead.the-variants.{Read, Refused as Faulty}
 use Rattle.requests.proofs.request.Laws.{request-form, same-request}
 use Rattle.calls.specs.Buffers.{Buffers}
-use Rattle.calls.specs.Perform.{Performed}
+use Rattle.calls.specs.Perform.{Performed, perform}
+use Rattle.calls.specs.History.{Answered, Log, Run, run, inOrder}
 use Rattle.calls.proofs.InBounds.{in-bounds}
 use Rattle.music_counter.specs.Answer.{Answers}
-use Rattle.music_counter.specs.Serve.{Stream, further, readStream, streamOf, carriedOut}
+use Rattle.music_counter.specs.Serve.{Stream, further, readStream, streamOf, servedRun, kindsIn, answersIn, overwritten, Serves}
 
 -- THE STREAM, request by request
 
@@ -61,32 +63,97 @@ stream-next (b ∷ s) {q} {k} e =
     ∙ ap (λ (t : Stream). record { requests = q ∷ t .requests; stop = t .stop })
     (enough (length s) (length (drop k (b ∷ s))) (drop k (b ∷ s)) (omega arith) (omega arith))
 
+-- THE NUMBERS that are noted of each request
+
+none-over : (places : List ℕ) → overwritten places [] ≡ places
+unfolding overwritten
+none-over [] = refl
+none-over (x ∷ places) = refl
+
+-- one more is set behind the others, where there is a place for it
+one-more : (places numbers : List ℕ) (n : ℕ) → set (overwritten places numbers) (length numbers) n ≡ overwritten places (numbers ++ (n ∷ []))
+unfolding overwritten
+one-more [] numbers n = refl
+one-more (x ∷ places) [] n = ap (λ (l : List ℕ). n ∷ l) (sym (none-over places))
+one-more (x ∷ places) (m ∷ numbers) n = ap (λ (l : List ℕ). m ∷ l) (one-more places numbers n)
+
+-- of each call of a log in its order, the number f of it: as many as there are calls stand in the places, the first in front
+pub record Noted (f : Answered → ℕ) (places : List ℕ) (log : Log) (numbers : List ℕ) : Type 0 where
+  pub are : numbers ≡ overwritten places (map f (inOrder log))
+  pub same-length : length numbers ≡ length places
+
+length-inOrder : (log : Log) → length (inOrder log) ≡ length log
+unfolding inOrder
+length-inOrder [] = refl
+length-inOrder (a ∷ log) = length-append (inOrder log) (a ∷ []) ∙ ap (λ (n : ℕ). n + 1) (length-inOrder log) ∙ add-one (length log)
+
+module _ (f : Answered → ℕ) {places : List ℕ} {log : Log} {numbers : List ℕ} (noted : Noted f places log numbers) where
+  note-next : (a : Answered) {count : ℕ} {after : List ℕ} → count ≡ length log → after ≡ set numbers count (f a) → Noted f places (a ∷ log) after
+  unfolding inOrder
+  note-next a {count} e wrote =
+      let old = map f (inOrder log) in
+      let long : count ≡ length old = e ∙ sym (length-map (inOrder log) f ∙ length-inOrder log) in
+      rw wrote record {
+        are =
+            ap₂ (λ (l : List ℕ) (n : ℕ). set l n (f a)) (noted .are) long
+            ∙ one-more places old (f a)
+            ∙ ap (overwritten places) (sym (map-append f (inOrder log) (a ∷ [])));
+        same-length = length-set numbers count (f a) ∙ noted .same-length;
+      }
+
 -- SERVING IT
 
--- requests of s are carried out from `before`, the bytes `rest` are unread and the buffers are b: serving the rest comes to what
--- serving all comes to
-pub record Serving (s : List ℕ) (before : Buffers) (rest : List ℕ) (b : Buffers) : Type 0 where
+-- requests of s are carried out from `before`: the bytes `rest` are unread, the buffers are b, and `count` requests are noted. What
+-- serving the rest comes to from here is what serving all comes to.
+pub record Serving (s : List ℕ) (before : Buffers) (kinds answers : List ℕ) (rest : List ℕ) (b : Buffers) (kinds′ answers′ : List ℕ) (count : ℕ) : Type 0 where
+  pub log : Log
   pub stops : streamOf rest .stop ≡ streamOf s .stop
-  pub leaves : carriedOut (streamOf rest .requests) b ≡ carriedOut (streamOf s .requests) before
+  pub comes-to : run (streamOf rest .requests) (record { log = log; buffers = b }) ≡ servedRun s before
+  pub counts : count + length (streamOf rest .requests) ≡ length (streamOf s .requests)
+  pub count-is : count ≡ length log
+  pub at-most : count + length rest ≤ length s
+  pub kinds-noted : Noted (λ a. kindOf (a .call)) kinds log kinds′
+  pub answers-noted : Noted (λ a. a .answer) answers log answers′
   pub ledger-length : length (b .ledger) ≡ length (before .ledger)
   pub titles-length : length (b .titles) ≡ length (before .titles)
   pub rules-length : length (b .rules) ≡ length (before .rules)
 
-pub start : (s : List ℕ) (b : Buffers) → Serving s b s b
-start s b = record { stops = refl; leaves = refl; ledger-length = refl; titles-length = refl; rules-length = refl }
+pub start : (s : List ℕ) (b : Buffers) (kinds answers : List ℕ) → Serving s b kinds answers s b kinds answers 0
+unfolding inOrder
+start s b kinds answers =
+    record {
+      log = [];
+      stops = refl;
+      comes-to = refl;
+      counts = omega arith;
+      count-is = refl;
+      at-most = omega arith;
+      kinds-noted = record { are = sym (none-over kinds); same-length = refl };
+      answers-noted = record { are = sym (none-over answers); same-length = refl };
+      ledger-length = refl;
+      titles-length = refl;
+      rules-length = refl;
+    }
 
--- what is promised of serving all: the answer and the buffers
-abbrev Promised : List ℕ → Buffers → ℕ → Buffers → Type 0
-Promised s before r b = (r ≡ streamOf s .stop) × (b ≡ carriedOut (streamOf s .requests) before)
-
-module _ {s : List ℕ} {before : Buffers} {rest : List ℕ} {b : Buffers} (r : Serving s before rest b) where
+module _ {s : List ℕ} {before : Buffers} {kinds answers rest : List ℕ} {b : Buffers} {kinds′ answers′ : List ℕ} {count : ℕ}
+    (r : Serving s before kinds answers rest b kinds′ answers′ count) where
   -- the stream of the rest has no request
-  ended : {w : ℕ} → streamOf rest ≡ record { requests = []; stop = w } → Promised s before w b
-  unfolding carriedOut
-  ended e = (ap (λ (t : Stream). t .stop) (sym e) ∙ r .stops, ap (λ (t : Stream). carriedOut (t .requests) b) (sym e) ∙ r .leaves)
+  ended : {w : ℕ} → streamOf rest ≡ record { requests = []; stop = w } → Serves s before (record { stop = w; count = count }) b kinds kinds′ answers answers′
+  unfolding run
+  ended e =
+      let here : Run = record { log = r .log; buffers = b } in
+      let all : here ≡ servedRun s before = ap (λ (t : Stream). run (t .requests) here) (sym e) ∙ r .comes-to in
+      let none : length (streamOf rest .requests) ≡ 0 = ap (λ (t : Stream). length (t .requests)) e in
+      record {
+        stop = ap (λ (t : Stream). t .stop) (sym e) ∙ r .stops;
+        count = omega (arith, r .counts, none);
+        buffers = ap (λ (w : Run). w .buffers) all;
+        kinds-are = r .kinds-noted .are ∙ ap (λ (w : Run). overwritten kinds (kindsIn w)) all;
+        answers-are = r .answers-noted .are ∙ ap (λ (w : Run). overwritten answers (answersIn w)) all;
+      }
 
   -- nothing is left
-  pub finished : length rest ≡ 0 → Promised s before 0 b
+  pub finished : length rest ≡ 0 → Serves s before (record { stop = 0; count = count }) b kinds kinds′ answers answers′
   finished h = ended (stream-ends rest (omega arith))
 
   -- x was read at the front of the rest
@@ -95,24 +162,40 @@ module _ {s : List ℕ} {before : Buffers} {rest : List ℕ} {b : Buffers} (r : 
     found e = sym (same-request read) ∙ e
 
     -- it is a refusal
-    pub faulted : (length rest ≡ 0 → ⊥) → {w n : ℕ} → x ≡ Faulty w → n ≡ requestAnswer x .number → Promised s before n b
+    pub faulted : (length rest ≡ 0 → ⊥) → {w n : ℕ} → x ≡ Faulty w → n ≡ requestAnswer x .number
+        → Serves s before (record { stop = n; count = count }) b kinds kinds′ answers answers′
     faulted h e d = rw (d ∙ ap (λ (y : RequestRead). requestAnswer y .number) e) (ended (stream-fault rest (omega arith) (found e)))
 
-    -- it is a request, which was carried out, and the bytes after it are unread
-    module _ {q : Request} {k : ℕ} (e : x ≡ Read q k) {unread : List ℕ} (after-it : unread ≡ drop k rest) where
-      pub fewer : length unread < length rest
-      fewer = rw after-it (shorter rest (found e))
+    -- it is a request
+    module _ {q : Request} {k : ℕ} (e : x ≡ Read q k) where
+      -- there is a number for one more
+      pub room : count + 1 ≤ length s
+      room = omega (arith, shorter rest (found e), r .at-most)
 
-      pub served : {answer : ℕ} {after : Buffers} → Answers q b answer after → Serving s before unread after
-      unfolding carriedOut
-      served made =
-          let next = stream-next rest (found e) in
-          let kept = in-bounds q b in
-          rw (after-it, ap (λ (p : Performed). p .buffers) made)
-          (record {
-            stops = ap (λ (t : Stream). t .stop) (sym next) ∙ r .stops;
-            leaves = ap (λ (t : Stream). carriedOut (t .requests) b) (sym next) ∙ r .leaves;
-            ledger-length = kept .ledger-length ∙ r .ledger-length;
-            titles-length = kept .titles-length ∙ r .titles-length;
-            rules-length = kept .rules-length ∙ r .rules-length;
-          })
+      -- it was carried out, and the bytes after it are unread
+      module _ {unread : List ℕ} (after-it : unread ≡ drop k rest) where
+        pub fewer : length unread < length rest
+        fewer = rw after-it (shorter rest (found e))
+
+        pub served : {kind answer : ℕ} {after : Buffers} {kinds″ answers″ : List ℕ} → Answers q b answer after → kind ≡ kindOf q → kinds″ ≡ set kinds′ count kind
+            → answers″ ≡ set answers′ count answer → Serving s before kinds answers unread after kinds″ answers″ (count + 1)
+        unfolding run
+        served made kind-is kinds-set answers-set =
+            let next = stream-next rest (found e) in
+            let kept = in-bounds q b in
+            let line : Answered = record { call = q; answer = perform q b .answer } in
+            let answer-is = ap (λ (p : Performed). p .answer) made in
+            rw (after-it, ap (λ (p : Performed). p .buffers) made)
+            (record {
+              log = line ∷ r .log;
+              stops = ap (λ (t : Stream). t .stop) (sym next) ∙ r .stops;
+              comes-to = ap (λ (t : Stream). run (t .requests) (record { log = r .log; buffers = b })) (sym next) ∙ r .comes-to;
+              counts = omega (arith, r .counts, ap (λ (t : Stream). length (t .requests)) next);
+              count-is = omega (arith, r .count-is);
+              at-most = omega (arith, shorter rest (found e), r .at-most);
+              kinds-noted = note-next (λ a. kindOf (a .call)) (r .kinds-noted) line (r .count-is) (kinds-set ∙ ap (set kinds′ count) kind-is);
+              answers-noted = note-next (λ a. a .answer) (r .answers-noted) line (r .count-is) (answers-set ∙ ap (set answers′ count) answer-is);
+              ledger-length = kept .ledger-length ∙ r .ledger-length;
+              titles-length = kept .titles-length ∙ r .titles-length;
+              rules-length = kept .rules-length ∙ r .rules-length;
+            })

@@ -1,13 +1,15 @@
 -- Serving requests from their bytes: a stream of them, up to its end or the first fault.
 use Prim.Native.Nat.{ℕ, zero, suc}
-use mathlib.Core.List.{List, [], _∷_}
+use mathlib.Core.Path.{_≡_}
+use mathlib.Core.List.{List, [], _∷_, map}
 use lib.ListN.{length, drop}
-use Rattle.requests.specs.Request.{readRequest}
+use Rattle.requests.specs.Request.{readRequest, kindOf}
 use Rattle.requests.specs.declared.request.Request.{Request}
 use Rattle.requests.specs.declared.request.RequestRead.{RequestRead}
 use Rattle.requests.specs.declared.request.RequestRead.the-variants.{Read, Refused}
 use Rattle.calls.specs.Buffers.{Buffers}
-use Rattle.calls.specs.Perform.{perform}
+use Rattle.calls.specs.History.{Run, from, run, inOrder}
+use Rattle.music_counter.specs.declared.serve.Served.{Served}
 
 -- the requests that are read one after another, and "0 where no byte is left, or the number that stopped reading"
 pub record Stream : Type 0 where
@@ -28,7 +30,28 @@ readStream (suc n) (b ∷ s) = further (λ rest. readStream n rest) (b ∷ s) (r
 unfoldable pub streamOf : List ℕ → Stream
 streamOf s = readStream (length s) s
 
--- requests carried out one after another
-unfoldable pub carriedOut : List Request → Buffers → Buffers
-carriedOut [] b = b
-carriedOut (q ∷ qs) b = carriedOut qs (perform q b .buffers)
+-- the run of a stream's requests from what a server is lent
+abbrev pub servedRun : List ℕ → Buffers → Run
+servedRun s b = run (streamOf s .requests) (from b)
+
+-- "a line per request, kind and answer": both, in the order of the requests
+abbrev pub kindsIn : Run → List ℕ
+kindsIn w = map (λ a. kindOf (a .call)) (inOrder (w .log))
+
+abbrev pub answersIn : Run → List ℕ
+answersIn w = map (λ a. a .answer) (inOrder (w .log))
+
+-- places for numbers, in which as many were written as there are places
+unfoldable pub overwritten : List ℕ → List ℕ → List ℕ
+overwritten [] numbers = []
+overwritten (x ∷ places) [] = x ∷ places
+overwritten (x ∷ places) (n ∷ numbers) = n ∷ overwritten places numbers
+
+-- the stream s was served from the buffers `before`: the number that stopped it and how many requests it had, the buffers, and
+-- the places for kinds and answers, as they were and as they are
+pub record Serves (s : List ℕ) (before : Buffers) (r : Served) (after : Buffers) (kinds kinds′ answers answers′ : List ℕ) : Type 0 where
+  pub stop : r .stop ≡ streamOf s .stop
+  pub count : r .count ≡ length (streamOf s .requests)
+  pub buffers : after ≡ servedRun s before .buffers
+  pub kinds-are : kinds′ ≡ overwritten kinds (kindsIn (servedRun s before))
+  pub answers-are : answers′ ≡ overwritten answers (answersIn (servedRun s before))

@@ -1,8 +1,9 @@
 // Serving requests from their bytes.
 ghost use mathlib.Core.Path.{_≡_};
+ghost use lib.ListN.{set};
 ghost use Rattle.calls.specs.Buffers.{lent};
 ghost use Rattle.music_counter.specs.Answer.{Answers};
-ghost use Rattle.music_counter.specs.Serve.{streamOf, carriedOut};
+ghost use Rattle.music_counter.specs.Serve.{Serves};
 use crate::check_in;
 use crate::check_out;
 use crate::delete;
@@ -48,22 +49,51 @@ pub fn perform(ledger: &mut [u8], titles: &mut [u8], rules: &mut [u8], request: 
     }
 }
 
-// Serves a whole stream, to its end or to the first request that cannot be read. Answers 0 where no byte is left, or the
-// number that stopped reading; everything before it is carried out.
-pub fn all(ledger: &mut [u8], titles: &mut [u8], rules: &mut [u8], s: &[u8]) -> u64
-    ensures { λ r. ⌜ r ≡ streamOf (now (s .entry)) .stop ⌝ }
-    ensures { λ _. ⌜ lent (ledger .exit) (titles .exit) (rules .exit)
-        ≡ carriedOut (streamOf (now (s .entry)) .requests) (lent (ledger .entry) (titles .entry) (rules .entry)) ⌝ }
+// 0 where no byte is left, or the number that stopped reading, and how many requests were served.
+pub struct Served {
+    pub stop: u64,
+    pub count: usize,
+}
+
+// Writes a number to place i, where there is one.
+fn note(places: &mut [u64], i: usize, number: u64)
+    ensures { λ _. ⌜ now (places .exit) ≡ set (now (places .entry)) i number ⌝ }
+{
+    if i < places.len() {
+        places[i] = number;
+    }
+}
+
+// Serves a whole stream, to its end or to the first request that cannot be read; everything before it is carried out. `kinds` and
+// `answers` get each request's, as many as they have places.
+pub fn all(
+    ledger: &mut [u8],
+    titles: &mut [u8],
+    rules: &mut [u8],
+    s: &[u8],
+    kinds: &mut [u64],
+    answers: &mut [u64],
+) -> Served
+    ensures { λ r. ⌜ Serves (now (s .entry)) (lent (ledger .entry) (titles .entry) (rules .entry)) r
+        (lent (ledger .exit) (titles .exit) (rules .exit))
+        (now (kinds .entry)) (now (kinds .exit)) (now (answers .entry)) (now (answers .exit)) ⌝ }
 {
     let mut rest = s;
+    let mut count: usize = 0;
     while rest.len() != 0 {
         let found = request::read(rest);
         let RequestRead::Read { request, len: _ } = found else {
-            return request::number(found);
+            return Served {
+                stop: request::number(found),
+                count,
+            };
         };
-        perform(ledger, titles, rules, request);
+        let answer = perform(ledger, titles, rules, request);
+        note(kinds, count, request::kind(request));
+        note(answers, count, answer);
+        count += 1;
         let unread = request::remainder(rest, found);
         rest = unread;
     }
-    0
+    Served { stop: 0, count }
 }
