@@ -7,14 +7,14 @@ use mathlib.Core.Bool.{Bool, true, false, not, _&&_, cond}
 use native.Mathlib.Omega.{arith}
 use lib.Dec.{eqb}
 use borrow.Author.Tests.{ne-eqb}
-use Rattle.formats.specs.Facts.{cciPasses, triggerPasses, countPasses, keyPasses, inRange, factValues}
+use Rattle.formats.specs.Facts.{numbered, factsPass, cciPasses, triggerPasses, countPasses, keyPasses, inRange, factValues}
 use Rattle.formats.specs.Refusal.{unless}
 use Rattle.requests.specs.Request.{factArguments, schema, firstLimit, limitOf}
 use Rattle.formats.specs.declared.facts.Facts.{Facts}
 use Rattle.requests.specs.declared.request.Request.{Request}
 use Rattle.requests.specs.declared.request.Request.the-variants.{Register, Record, CheckOut, CheckIn, MoveOut, MoveIn, Delete}
 use Rattle.calls.specs.Refusal.{first}
-use Rattle.calls.specs.Conditions.{numbered, factsPass, argumentConditions}
+use Rattle.calls.specs.Conditions.{argumentConditions}
 use Rattle.calls.proofs.Refusals.{refusing}
 
 -- one test

@@ -9,7 +9,7 @@ use native.Mathlib.Omega.{arith}
 use lib.ListN.{length}
 use lib.Dec.{eqb}
 use borrow.Author.Tests.{le-leb, leb-true, lt-ltb, ltb-true, eq-eqb, ne-eqb, eqb-true, eqb-false, not-false}
-use Rattle.formats.specs.Facts.{inRange, keyPasses}
+use Rattle.formats.specs.Facts.{numbered, factsPass, inRange, keyPasses}
 use Rattle.formats.specs.Head.{LedgerHead, TitlesHead, RulesHead, ledgerPasses, ledgerApplication, titlesPass, rulesPass, rulesApplication}
 use Rattle.formats.specs.declared.facts.Facts.{Facts}
 use Rattle.requests.specs.declared.request.Request.{Request}
@@ -19,11 +19,11 @@ use Rattle.formats.specs.declared.entry.EntryKind.the-variants.{Free, Copy, Ful
 use Rattle.formats.specs.declared.row.RowState.{RowState}
 use Rattle.formats.specs.declared.row.RowState.the-variants.{Empty, Here, Away, Gone, NoState}
 use Rattle.formats.proofs.Tests.{split, both}
-use Rattle.formats.proofs.facts.Laws.{Ranges, ranges, in-range}
+use Rattle.formats.proofs.facts.Laws.{numbered-range, range-numbered, Ranges, ranges, in-range}
 use Rattle.formats.proofs.head.Laws.{ledger-head, ledger-passes, titles-head, titles-pass, rules-head, rules-pass}
 use Rattle.calls.specs.Buffers.{Buffers, stateAt, rowFacts, hereFacts, kindAt, contentAt, factsAt, isFree, isCopy, isFull, isEmpty, isHere, isAway, one, copies, Within}
 use Rattle.calls.specs.Refusal.{Condition, _when_, first, FirstToHold, NoneHolds}
-use Rattle.calls.specs.Conditions.{numbered, factsPass, mayNotMove, conditions}
+use Rattle.calls.specs.Conditions.{mayNotMove, conditions}
 use Rattle.calls.specs.Perform.{perform}
 use Rattle.calls.specs.Needs.{Need, _needs_, AllMet, FirstUnmet, AnsweredBy, FactsInRange, RulesOfLedger, MayMove, NoCopy, needsOf}
 use Rattle.calls.proofs.Refusals.{refusing, none-is-0, answer-first, of-first, to-first, of-none, to-none, holds-not}
@@ -39,17 +39,14 @@ pub record Tests (x : Bool) (P : Type 0) : Type 0 where
 -- 4 and 5: the number is 1 to 999
 pub numbered-within : (v : ℕ) → numbered v ≡ true → Within 999 v
 numbered-within v e =
-    let (p, q) = split _ _ e in
-    record { from = leb-true _ _ p; to = leb-true _ _ q }
-
-pub within-numbered : (v : ℕ) → 1 ≤ v → v ≤ 999 → numbered v ≡ true
-within-numbered v low high = both (le-leb 1 v low) (le-leb v 999 high)
+    let (low, high) = numbered-range v e in
+    record { from = low; to = high }
 
 pub is-numbered : (v : ℕ) → not (numbered v) ≡ false → Within 999 v
 is-numbered v e = numbered-within v (not-false _ e)
 
 pub numbers : {v : ℕ} → Within 999 v → not (numbered v) ≡ false
-numbers {v} w = holds-not (within-numbered v (w .from) (w .to))
+numbers {v} w = holds-not (range-numbered (w .from) (w .to))
 
 pub tests-number : (v : ℕ) → Tests (not (numbered v)) (Within 999 v)
 tests-number v = record { met = is-numbered v; unmet = numbers }
@@ -196,7 +193,7 @@ tests-either k = record { met = met k; unmet = ⊎-elim (λ e. holds-not (ap (λ
     met Torn e = absurd (true≢false e)
 
 -- 12: neither trigger nor rights forbid a move
-tests-move : (f : Facts) → Tests (mayNotMove f) (MayMove f)
+tests-move : (f : Facts) → Tests (mayNotMove (f .trigger) (f .rights)) (MayMove f)
 tests-move f =
     let t = tests-both (tests-other (f .trigger) 1) (tests-other (f .rights) 0) in
     record { met = λ e. let (x, y) = t .met e in record { not-triggered = x; right-left = y }; unmet = λ m. t .unmet (m .not-triggered, m .right-left) }

@@ -11,11 +11,10 @@ use lib.ListN.{length, getD, drop}
 use lib.Dec.{leb, ltb, eqb}
 use borrow.Author.Tests.{eq-eqb, ne-eqb, ltb-false}
 use Rattle.formats.specs.Answer.{done}
-use Rattle.formats.specs.Facts.{cciPasses, triggerPasses, countPasses, keyPasses}
 use Rattle.formats.specs.Part.{put}
 use Rattle.formats.proofs.Part.{put-length}
 use Rattle.requests.specs.Number.{readNumber, writing, writtenTo, writtenAnswer}
-use Rattle.requests.specs.Request.{limit, kindLimit, schema, kindOf, valuesOf, written, firstLimit, limitOf, ArgumentsRead, Values, Fault, withValue, readArguments, asRequest, readRequest, requestAnswer, remainderOf, writingRequest, requestWrittenTo}
+use Rattle.requests.specs.Request.{passes, limit, kindLimit, schema, kindOf, valuesOf, written, firstLimit, limitOf, ArgumentsRead, Values, Fault, withValue, readArguments, asRequest, readRequest, requestAnswer, remainderOf, writingRequest, requestWrittenTo}
 use Rattle.requests.specs.declared.number.NumberRead.{NumberRead}
 use Rattle.requests.specs.declared.number.NumberRead.the-variants.{Number, Refused as NoNumber}
 use Rattle.requests.specs.declared.request.Argument.{Argument}
@@ -29,7 +28,6 @@ use Rattle.requests.proofs.request.Laws.{values-size}
 use Rattle.requests.proofs.request.Writing.{writing-request-keeps-bytes}
 use Rattle.requests.proofs.request.Cases.{argument-refused, argument-limit, argument-value, kind-refused, kind-limit, kind-value}
 use Rattle.calls.specs.Refusal.{Condition, _when_, first, numbersOf}
-use Rattle.calls.specs.Conditions.{numbered}
 use Rattle.calls.specs.Requests.{limitConditions, numberConditions, valueRead, bytesAfter, argumentsConditions, kindCondition, readingConditions, valuesConditions, writingConditions, limitNumbers, argumentsNumbers, valuesNumbers, Reads, Writes, Demand1Requests}
 use Rattle.calls.proofs.Refusals.{refusing, refused-first, either-way, none-after}
 use Rattle.calls.proofs.Limits.{one-limit, limits-agree}
@@ -42,13 +40,13 @@ record Tested (a : Argument) (v : ℕ) (cs : List Condition) : Type 0 where
 
 tested : (a : Argument) (v : ℕ) (cs : List Condition) → Tested a v cs
 unfolding first
-tested Content v cs = record { numbers = refl; refuses = refl; answer = one-limit (numbered v) 4 (λ e. omega arith) refl }
-tested Entry v cs = record { numbers = refl; refuses = refl; answer = one-limit (numbered v) 5 (λ e. omega arith) refl }
-tested Cci v cs = record { numbers = refl; refuses = refl; answer = one-limit (cciPasses v) 6 (λ e. omega arith) refl }
-tested Trigger v cs = record { numbers = refl; refuses = refl; answer = one-limit (triggerPasses v) 6 (λ e. omega arith) refl }
-tested Rights v cs = record { numbers = refl; refuses = refl; answer = one-limit (countPasses v) 6 (λ e. omega arith) refl }
-tested Permits v cs = record { numbers = refl; refuses = refl; answer = one-limit (countPasses v) 6 (λ e. omega arith) refl }
-tested Key v cs = record { numbers = refl; refuses = refl; answer = one-limit (keyPasses v) 6 (λ e. omega arith) refl }
+tested Content v cs = record { numbers = refl; refuses = refl; answer = one-limit (passes Content v) 4 (λ e. omega arith) refl }
+tested Entry v cs = record { numbers = refl; refuses = refl; answer = one-limit (passes Entry v) 5 (λ e. omega arith) refl }
+tested Cci v cs = record { numbers = refl; refuses = refl; answer = one-limit (passes Cci v) 6 (λ e. omega arith) refl }
+tested Trigger v cs = record { numbers = refl; refuses = refl; answer = one-limit (passes Trigger v) 6 (λ e. omega arith) refl }
+tested Rights v cs = record { numbers = refl; refuses = refl; answer = one-limit (passes Rights v) 6 (λ e. omega arith) refl }
+tested Permits v cs = record { numbers = refl; refuses = refl; answer = one-limit (passes Permits v) 6 (λ e. omega arith) refl }
+tested Key v cs = record { numbers = refl; refuses = refl; answer = one-limit (passes Key v) 6 (λ e. omega arith) refl }
 tested Any v cs = record { numbers = refl; refuses = refl; answer = refl }
 
 -- READING

@@ -2,34 +2,33 @@
 use Prim.Native.Nat.{ℕ, _%_, _^_}
 use mathlib.Core.List.{List, [], _∷_, _++_}
 use mathlib.Core.Bool.{Bool, not, _&&_, _||_}
-use lib.Dec.{leb, eqb}
-use Rattle.formats.specs.Facts.{inRange, keyPasses}
+use lib.Dec.{eqb}
+use Rattle.formats.specs.Facts.{factsPass}
 use Rattle.formats.specs.Half.{keyOf}
 use Rattle.formats.specs.Rule.{hashOf}
 use Rattle.formats.specs.Head.{ledgerPasses, ledgerApplication, titlesPass, rulesPass, rulesApplication}
-use Rattle.formats.specs.declared.facts.Facts.{Facts}
+use Rattle.requests.specs.Request.{passes, refusalOf}
+use Rattle.requests.specs.declared.request.Argument.{Argument}
+use Rattle.requests.specs.declared.request.Argument.the-variants.{Content, Entry}
 use Rattle.requests.specs.declared.request.Request.{Request}
 use Rattle.requests.specs.declared.request.Request.the-variants.{Register, Record, CheckOut, CheckIn, MoveOut, MoveIn, Delete}
 use Rattle.calls.specs.Buffers.{Buffers, titleAt, ruleAt, stateAt, rowFacts, kindAt, contentAt, factsAt, isFree, isCopy, isFull, isEmpty, isHere, isAway, copies}
 use Rattle.calls.specs.Refusal.{Condition, _when_, _unless_}
 
--- "1 to 999"
-abbrev pub numbered : ℕ → Bool
-numbered v = leb 1 v && leb v 999
+-- an argument past its limit: 4 of c, 5 of j
+abbrev pub _limits_ : Argument → ℕ → Condition
+a limits v = refusalOf a unless passes a v
 
--- condition 6 does not hold: CCI 0, 2 or 3, trigger 0 or 1, rights and permits at most 15, keys below 2^56
-abbrev pub factsPass : Facts → Bool
-factsPass f = inRange f && (keyPasses (f .«title_key») && keyPasses (f .«sti_key»))
-
--- 4 c not 1 to 999; 5 j not 1 to 999; 6 the facts
+infix 70 _limits_
+-- 4 c not 1 to 999; 5 j not 1 to 999; 6 the facts, all six at once
 abbrev pub argumentConditions : Request → List Condition
-argumentConditions (Register c f) = 4 unless numbered (c .0) ∷ 6 unless factsPass f ∷ []
-argumentConditions (Record c j f h) = 4 unless numbered (c .0) ∷ 5 unless numbered (j .0) ∷ 6 unless factsPass f ∷ []
-argumentConditions (CheckOut c j) = 4 unless numbered (c .0) ∷ 5 unless numbered (j .0) ∷ []
-argumentConditions (CheckIn j f1) = 5 unless numbered (j .0) ∷ []
-argumentConditions (MoveOut j h f) = 5 unless numbered (j .0) ∷ []
-argumentConditions (MoveIn c j h) = 4 unless numbered (c .0) ∷ 5 unless numbered (j .0) ∷ []
-argumentConditions (Delete j f) = 5 unless numbered (j .0) ∷ []
+argumentConditions (Register c f) = Content limits (c .0) ∷ 6 unless factsPass f ∷ []
+argumentConditions (Record c j f h) = Content limits (c .0) ∷ Entry limits (j .0) ∷ 6 unless factsPass f ∷ []
+argumentConditions (CheckOut c j) = Content limits (c .0) ∷ Entry limits (j .0) ∷ []
+argumentConditions (CheckIn j f1) = Entry limits (j .0) ∷ []
+argumentConditions (MoveOut j h f) = Entry limits (j .0) ∷ []
+argumentConditions (MoveIn c j h) = Content limits (c .0) ∷ Entry limits (j .0) ∷ []
+argumentConditions (Delete j f) = Entry limits (j .0) ∷ []
 
 -- 7 ledger length or head wrong; 8 title table length or head wrong; 9 rule table likewise, its application number other
 -- than the ledger's included
@@ -51,8 +50,8 @@ headConditions (MoveIn c j h) b = allHeadConditions b
 headConditions (Delete j f) b = allHeadConditions b
 
 -- "trigger 1 or rights 0"
-abbrev pub mayNotMove : Facts → Bool
-mayNotMove f = eqb (f .trigger) 1 || eqb (f .rights) 0
+abbrev pub mayNotMove : ℕ → ℕ → Bool
+mayNotMove trigger rights = eqb trigger 1 || eqb rights 0
 
 -- "f1 mod 2^56 is the wiped title key", "f2 mod 2^56 the STI key": the filler would leave the key of this half
 abbrev pub leavesKey : ℕ → List ℕ → Bool
@@ -84,14 +83,14 @@ stateConditions (CheckIn j f1) b =
 stateConditions (MoveOut j h f) b =
     10 unless isFull (kindAt b (j .0))
     ∷ 11 unless isAway (stateAt b (contentAt b (j .0)))
-    ∷ 12 when mayNotMove (factsAt b (j .0))
+    ∷ 12 when mayNotMove (factsAt b (j .0) .trigger) (factsAt b (j .0) .rights)
     ∷ 13 unless eqb h (hashOf (ruleAt (b .rules) (j .0)))
     ∷ 16 when (leavesKey (f .f1) (titleAt (b .titles) (j .0)) || leavesKey (f .f2) (ruleAt (b .rules) (j .0)))
     ∷ []
 stateConditions (MoveIn c j h) b =
     10 unless isFree (kindAt b (j .0))
     ∷ 11 unless isHere (stateAt b (c .0))
-    ∷ 12 when mayNotMove (rowFacts b (c .0))
+    ∷ 12 when mayNotMove (rowFacts b (c .0) .trigger) (rowFacts b (c .0) .rights)
     ∷ 14 unless eqb (copies (c .0) (b .titles) (b .rules)) 0
     ∷ []
 stateConditions (Delete j f) b =

@@ -2,35 +2,27 @@
 use Prim.Native.Nat.{ℕ}
 use mathlib.Core.Path.{_≡_}
 use mathlib.Core.List.{List, [], _∷_, _++_}
-use mathlib.Core.Bool.{Bool, false, _&&_}
+use mathlib.Core.Bool.{Bool, false, cond, _&&_}
 use lib.ListN.{length, getD, drop}
 use lib.Dec.{leb, ltb, eqb}
 use Rattle.formats.specs.Answer.{done}
 use Rattle.formats.specs.Bytes.{Bytes}
-use Rattle.formats.specs.Facts.{cciPasses, triggerPasses, countPasses, keyPasses}
 use Rattle.formats.specs.Part.{put}
 use Rattle.requests.specs.Number.{readNumber, writtenAnswer}
-use Rattle.requests.specs.Request.{schema, kindOf, valuesOf, written, limitOf, readRequest, requestAnswer, remainderOf, writingRequest, requestWrittenTo}
+use Rattle.requests.specs.Request.{refusalOf, schema, kindOf, valuesOf, written, limitOf, readRequest, requestAnswer, remainderOf, writingRequest, requestWrittenTo}
 use Rattle.requests.specs.declared.number.NumberRead.{NumberRead}
 use Rattle.requests.specs.declared.number.NumberRead.the-variants.{Number, Refused}
 use Rattle.requests.specs.declared.request.Argument.{Argument}
 use Rattle.requests.specs.declared.request.Argument.the-variants.{Content, Entry, Cci, Trigger, Rights, Permits, Key, Any}
 use Rattle.requests.specs.declared.request.Request.{Request}
 use Rattle.calls.specs.Refusal.{Condition, _when_, _unless_, first, RefusedFirst}
-use Rattle.calls.specs.Conditions.{numbered, argumentConditions}
+use Rattle.calls.specs.Conditions.{_limits_, argumentConditions}
 
 -- THE CONDITIONS
 
--- 4, 5 or 6 of one argument; "f1 to f4 are 64-bit fillers, h a 64-bit C_HASH", which have no limit of their own
+-- 4, 5 or 6 of one argument, none of an argument without a limit
 abbrev pub limitConditions : Argument → ℕ → List Condition
-limitConditions Content v = 4 unless numbered v ∷ []
-limitConditions Entry v = 5 unless numbered v ∷ []
-limitConditions Cci v = 6 unless cciPasses v ∷ []
-limitConditions Trigger v = 6 unless triggerPasses v ∷ []
-limitConditions Rights v = 6 unless countPasses v ∷ []
-limitConditions Permits v = 6 unless countPasses v ∷ []
-limitConditions Key v = 6 unless keyPasses v ∷ []
-limitConditions Any v = []
+limitConditions a v = cond (eqb (refusalOf a) 0) [] (a limits v ∷ [])
 
 -- 1 and 2 of the number at the front of bytes: it is refused with that number, which `NumberRefused` says of the bytes
 abbrev pub isRefused : ℕ → NumberRead → Bool

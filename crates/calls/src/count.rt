@@ -44,12 +44,12 @@ pub fn after_move(facts: Facts) -> Facts
     }
 }
 
-// Whether a title's facts forbid a move: its trigger is 1, or no move right is left.
-pub fn may_not_move(facts: Facts) -> bool
-    ensures { λ r. ⌜ r ≡ mayNotMove facts ⌝ }
+// Whether a title may not move: its trigger is 1, or no move right is left.
+pub fn may_not_move(trigger: u64, rights: u64) -> bool
+    ensures { λ r. ⌜ r ≡ mayNotMove trigger rights ⌝ }
 {
-    if facts.trigger == 1 {
+    if trigger == 1 {
         return true;
     }
-    facts.rights == 0
+    rights == 0
 }

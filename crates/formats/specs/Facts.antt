@@ -9,6 +9,10 @@ use Rattle.formats.specs.declared.facts.Facts.{Facts}
 abbrev pub factValues : Facts → List ℕ
 factValues f = f .cci ∷ f .trigger ∷ f .rights ∷ f .permits ∷ f .«title_key» ∷ f .«sti_key» ∷ []
 
+-- "1 to 999": content IDs, entry numbers, and the count of a ledger's rows
+abbrev pub numbered : ℕ → Bool
+numbered v = leb 1 v && leb v 999
+
 -- "CCI is 0, 2 or 3"
 abbrev pub cciPasses : ℕ → Bool
 cciPasses v = leb v 3 && not (eqb v 1)
@@ -28,3 +32,7 @@ keyPasses v = ltb v (2 ^ 56)
 -- the ranges that a row's facts keep; its keys are seven bytes each
 unfoldable pub inRange : Facts → Bool
 inRange f = cciPasses (f .cci) && (triggerPasses (f .trigger) && (countPasses (f .rights) && countPasses (f .permits)))
+
+-- and all six of them: condition 6 does not hold
+abbrev pub factsPass : Facts → Bool
+factsPass f = inRange f && (keyPasses (f .«title_key») && keyPasses (f .«sti_key»))

@@ -4,6 +4,7 @@ use mathlib.Core.List.{List, [], _∷_, _++_}
 use mathlib.Core.Bool.{Bool, not, _&&_, cond}
 use lib.ListN.{length, getD}
 use lib.Dec.{leb, eqb}
+use Rattle.formats.specs.Facts.{numbered}
 use Rattle.formats.specs.Part.{part, put}
 use Rattle.formats.specs.Field.{number, bytesOf}
 
@@ -29,7 +30,7 @@ usableId h = cond (usableOf h) (idOf h) 0
 
 -- flag 1 and the content ID c, from 1 to 999: what the title half of every copy of c has
 unfoldable pub flaggedWith : ℕ → List ℕ → Bool
-flaggedWith c h = (leb 1 c && leb c 999) && (usableOf h && eqb (idOf h) c)
+flaggedWith c h = numbered c && (usableOf h && eqb (idOf h) c)
 
 -- "A written half gets its fields, flag 1, ID c, all reserved bits 0": the first 16 bytes
 unfoldable pub halfBytes : ℕ → ℕ → ℕ → List ℕ

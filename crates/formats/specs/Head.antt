@@ -7,6 +7,7 @@ use mathlib.Core.Bool.{Bool, _&&_, _||_}
 use lib.ListN.{length, getD, replicate}
 use lib.Dec.{leb, eqb}
 use Rattle.formats.specs.Refusal.{unless}
+use Rattle.formats.specs.Facts.{numbered}
 use Rattle.formats.specs.Part.{part}
 use Rattle.formats.specs.Field.{number, bytesOf}
 
@@ -19,7 +20,7 @@ rowsOf l = number (part l 2 2)
 
 -- "24 × (R + 1) bytes, R from 1 to 999"
 unfoldable pub ledgerPasses : List ℕ → Bool
-ledgerPasses l = leb 1 (rowsOf l) && (leb (rowsOf l) 999 && eqb (length l) (24 * (rowsOf l + 1)))
+ledgerPasses l = numbered (rowsOf l) && eqb (length l) (24 * (rowsOf l + 1))
 
 -- what the two card tables share: the length, bytes 0-1 the identifier, 4-7 the size, 10-11 the count 999,
 -- byte 12 the length of an entry and byte 13 a mark

@@ -5,6 +5,7 @@ ghost use Prim.Native.Nat.{_+_, _*_, _%_};
 ghost use lib.Dec.{leb};
 ghost use Rattle.formats.specs.Part.{put};
 ghost use Rattle.formats.specs.Half.{keyOf, flagOf, idOf, usableOf, usableId, flaggedWith, halfBytes, wiped, changedHalf};
+use crate::facts;
 use crate::facts::ContentId;
 use crate::field;
 use crate::table;
@@ -88,10 +89,7 @@ pub fn is_flagged(half: &[u8], content: ContentId) -> bool
     if half.len() < 16 {
         return false;
     }
-    if id < 1 {
-        return false;
-    }
-    if 999 < id {
+    if !facts::is_numbered(id) {
         return false;
     }
     let tail = field::swapped(field::read_at(half, 8, 8));

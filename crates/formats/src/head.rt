@@ -1,6 +1,7 @@
 // The heads of the ledger and of the two card tables. A buffer that is too short for its head is refused and not read.
 ghost use mathlib.Core.Path.{_≡_};
 ghost use Rattle.formats.specs.Head.{ledgerApplication, rowsOf, ledgerAnswer, titlesAnswer, rulesApplication, rulesAnswer, rulesAnswerFor};
+use crate::facts;
 use crate::field;
 use crate::refusal;
 
@@ -26,10 +27,7 @@ pub fn check_ledger(ledger: &[u8]) -> u64
         return refusal::LEDGER;
     }
     let rows = rows(ledger);
-    if rows < 1 {
-        return refusal::LEDGER;
-    }
-    if 999 < rows {
+    if !facts::is_numbered(rows) {
         return refusal::LEDGER;
     }
     if ledger.len() as u64 != 24 * (rows + 1) {

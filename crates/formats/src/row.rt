@@ -3,7 +3,6 @@ ghost use mathlib.Core.Path.{_≡_};
 ghost use Prim.Native.Nat.{_+_, _*_, _%_, _^_};
 ghost use lib.ListN.{length};
 ghost use Rattle.formats.specs.Part.{replaced};
-ghost use Rattle.formats.specs.Facts.{inRange};
 ghost use Rattle.formats.specs.Row.{stateAnswer, factsOf, stateOf, hereRow, plainRow, withPermits};
 use crate::facts::Facts;
 use crate::field;
@@ -28,25 +27,6 @@ pub const HERE: u8 = 1;
 pub const AWAY: u8 = 2;
 
 pub const GONE: u8 = 3;
-
-// Whether CCI, trigger, rights and permits are in their ranges.
-pub fn in_range(facts: Facts) -> bool
-    ensures { λ r. ⌜ r ≡ inRange facts ⌝ }
-{
-    if 3 < facts.cci {
-        return false;
-    }
-    if facts.cci == 1 {
-        return false;
-    }
-    if 1 < facts.trigger {
-        return false;
-    }
-    if 15 < facts.rights {
-        return false;
-    }
-    facts.permits <= 15
-}
 
 fn facts(row: &[u8]) -> Facts
     requires { ⌜ length (now row) ≡ 24 ⌝ }
@@ -74,7 +54,7 @@ pub fn state(row: &[u8]) -> RowState
     }
     if first == HERE {
         let facts = facts(row);
-        if in_range(facts) {
+        if crate::facts::in_range(facts) {
             return RowState::Here(facts);
         }
         return RowState::NoState;

@@ -3,7 +3,8 @@ use Prim.Native.Nat.{ℕ}
 use mathlib.Core.List.{List, _∷_}
 use Rattle.calls.specs.Buffers.{Buffers}
 use Rattle.calls.specs.Refusal.{Condition, _unless_}
-use Rattle.calls.specs.Conditions.{numbered, allHeadConditions}
+use Rattle.formats.specs.Facts.{numbered}
+use Rattle.calls.specs.Conditions.{allHeadConditions}
 
 -- 5 j not 1 to 999; 7, 8 and 9 the heads
 abbrev pub entryConditions : ℕ → Buffers → List Condition

@@ -4,10 +4,9 @@ ghost use mathlib.Core.Path.{_≡_};
 ghost use Rattle.calls.specs.Buffers.{lent};
 ghost use Rattle.calls.specs.Refusal.{first};
 ghost use Rattle.refusals.specs.Before.{entryConditions, titleConditions};
-use calls::argument;
+use formats::facts;
 use formats::facts::ContentId;
 use formats::facts::EntryNumber;
-use formats::refusal;
 use tables::heads;
 
 pub mod check_in;
@@ -16,6 +15,7 @@ pub mod delete;
 pub mod move_in;
 pub mod move_out;
 pub mod record;
+pub mod refusal;
 pub mod register;
 
 // What a call that names an entry tests before it looks there: 5, then 7, 8 and 9.
@@ -23,8 +23,8 @@ fn before_entry(ledger: &[u8], titles: &[u8], rules: &[u8], entry: EntryNumber) 
     ensures { λ r. ⌜ r ≡ first (entryConditions (entry .0)
         (lent (ledger .entry) (titles .entry) (rules .entry))) ⌝ }
 {
-    if !argument::is_numbered(entry.0) {
-        return refusal::ENTRY_NUMBER;
+    if !facts::is_numbered(entry.0) {
+        return formats::refusal::ENTRY_NUMBER;
     }
     heads::check(ledger, titles, rules)
 }
@@ -40,8 +40,8 @@ fn before_both(
     ensures { λ r. ⌜ r ≡ first (titleConditions (content .0) (entry .0)
         (lent (ledger .entry) (titles .entry) (rules .entry))) ⌝ }
 {
-    if !argument::is_numbered(content.0) {
-        return refusal::CONTENT_ID;
+    if !facts::is_numbered(content.0) {
+        return formats::refusal::CONTENT_ID;
     }
     before_entry(ledger, titles, rules, entry)
 }

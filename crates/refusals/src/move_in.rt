@@ -6,10 +6,10 @@ ghost use Rattle.calls.specs.Buffers.{lent};
 ghost use Rattle.calls.specs.Refusal.{first};
 ghost use Rattle.calls.specs.Conditions.{stateConditions};
 ghost use Rattle.calls.specs.Perform.{refusal};
+use crate::refusal;
 use calls::count;
 use formats::facts::ContentId;
 use formats::facts::EntryNumber;
-use formats::refusal;
 use tables::card;
 use tables::copies;
 use tables::ledger;
@@ -27,7 +27,8 @@ fn state(ledger: &[u8], titles: &[u8], rules: &[u8], content: ContentId, entry: 
     if !ledger::is_here(row) {
         return refusal::STATE_OF_ROW;
     }
-    if count::may_not_move(ledger::here_facts(row)) {
+    let facts = ledger::here_facts(row);
+    if count::may_not_move(facts.trigger, facts.rights) {
         return refusal::NOTHING_LEFT;
     }
     if !copies::any(titles, rules, content) {

@@ -7,7 +7,7 @@ ghost use Rattle.calls.specs.Buffers.{lent};
 ghost use Rattle.calls.specs.Refusal.{first};
 ghost use Rattle.calls.specs.Conditions.{argumentConditions, stateConditions};
 ghost use Rattle.calls.specs.Perform.{refusal};
-use calls::argument;
+use formats::facts;
 use formats::facts::ContentId;
 use formats::facts::EntryNumber;
 use formats::facts::Facts;
@@ -19,13 +19,13 @@ use tables::ledger;
 fn arguments(content: ContentId, entry: EntryNumber, facts: Facts) -> u64
     ensures { λ r. ⌜ ((hash : ℕ) → r ≡ first (argumentConditions (Record content entry facts hash))) ⌝ }
 {
-    if !argument::is_numbered(content.0) {
+    if !facts::is_numbered(content.0) {
         return refusal::CONTENT_ID;
     }
-    if !argument::is_numbered(entry.0) {
+    if !facts::is_numbered(entry.0) {
         return refusal::ENTRY_NUMBER;
     }
-    if !argument::are_facts(facts) {
+    if !facts::are_facts(facts) {
         return refusal::FACTS;
     }
     0
@@ -37,10 +37,10 @@ fn state(ledger: &[u8], titles: &[u8], rules: &[u8], content: ContentId, entry: 
 {
     let kind = card::kind(titles, rules, entry);
     if !card::is_free(kind) {
-        return refusal::KIND_OF_ENTRY;
+        return crate::refusal::KIND_OF_ENTRY;
     }
     if !ledger::is_empty(ledger::state(ledger, content)) {
-        return refusal::STATE_OF_ROW;
+        return crate::refusal::STATE_OF_ROW;
     }
     0
 }

@@ -1,11 +1,11 @@
 -- "A request is its kind and its arguments in the order above."
 use Prim.Native.Nat.{ℕ, _+_}
 use mathlib.Core.List.{List, [], _∷_, _++_}
-use mathlib.Core.Bool.{_&&_, cond}
+use mathlib.Core.Bool.{Bool, true, _&&_, cond}
 use lib.ListN.{getD, drop}
 use lib.Dec.{leb, eqb}
 use Rattle.formats.specs.Answer.{Answer, case, done, refused}
-use Rattle.formats.specs.Facts.{factValues, cciPasses, triggerPasses, countPasses, keyPasses}
+use Rattle.formats.specs.Facts.{factValues, numbered, cciPasses, triggerPasses, countPasses, keyPasses}
 use Rattle.requests.specs.Number.{groups, readNumber, writing, writtenTo}
 use Rattle.formats.specs.Refusal.{unless}
 use Rattle.requests.specs.declared.number.NumberRead.{NumberRead}
@@ -21,17 +21,33 @@ use Rattle.requests.specs.declared.request.Request.the-variants.{Registe
 use Rattle.requests.specs.declared.request.RequestRead.{RequestRead}
 use Rattle.requests.specs.declared.request.RequestRead.the-variants.{Read, Refused}
 
--- "4 c not 1 to 999 .. 5 j not 1 to 999 .. 6 CCI 1 or above 3, trigger above 1, rights or permits above 15, a key of
--- 2^56 or more": the refusal of the value v for an argument, 0 where it is within its limit
+-- what a value must be in order to pass as an argument: c and j "1 to 999", the facts in their ranges; "f1 to f4 are 64-bit fillers,
+-- h a 64-bit C_HASH", which have no limit of their own
+abbrev pub passes : Argument → ℕ → Bool
+passes Content v = numbered v
+passes Entry v = numbered v
+passes Cci v = cciPasses v
+passes Trigger v = triggerPasses v
+passes Rights v = countPasses v
+passes Permits v = countPasses v
+passes Key v = keyPasses v
+passes Any v = true
+
+-- the number of a value that does not: "4 c not 1 to 999 .. 5 j not 1 to 999 .. 6 CCI 1 or above 3, trigger above 1, rights or
+-- permits above 15, a key of 2^56 or more"; 0 of an argument without a limit
+abbrev pub refusalOf : Argument → ℕ
+refusalOf Content = 4
+refusalOf Entry = 5
+refusalOf Cci = 6
+refusalOf Trigger = 6
+refusalOf Rights = 6
+refusalOf Permits = 6
+refusalOf Key = 6
+refusalOf Any = 0
+
+-- the refusal of the value v for an argument, 0 where it is within its limit
 abbrev pub limit : Argument → ℕ → ℕ
-limit Content v = unless (leb 1 v && leb v 999) 4
-limit Entry v = unless (leb 1 v && leb v 999) 5
-limit Cci v = unless (cciPasses v) 6
-limit Trigger v = unless (triggerPasses v) 6
-limit Rights v = unless (countPasses v) 6
-limit Permits v = unless (countPasses v) 6
-limit Key v = unless (keyPasses v) 6
-limit Any v = 0
+limit a v = unless (passes a v) (refusalOf a)
 
 -- "Facts are CCI, trigger, rights, permits, title key, STI key"
 abbrev pub factArguments : List Argument

@@ -1,18 +1,18 @@
 // Requests: a kind and its arguments, each a number in groups of seven bits.
 ghost use mathlib.Core.Path.{_≡_};
-ghost use mathlib.Core.Bool.{_&&_};
 ghost use Prim.Native.Nat.{_+_, _≤_, _<_};
 ghost use lib.ListN.{length};
-ghost use lib.Dec.{leb};
 ghost use Rattle.formats.specs.Part.{put};
-ghost use Rattle.formats.specs.Facts.{cciPasses};
 ghost use Rattle.requests.specs.Number.{numberAnswer, writtenAnswer};
 ghost use Rattle.formats.specs.Refusal.{unless};
-ghost use Rattle.requests.specs.Request.{limit, kindOf, callAnswer, schema, factsFrom, fillersFrom, requestOf, written, limitOf, Fault, readArguments, readRequest, requestAnswer, remainderOf, writingRequest, requestWrittenTo};
+ghost use Rattle.requests.specs.Request.{limit, kindLimit, kindOf, callAnswer, schema, factsFrom, fillersFrom, requestOf};
+ghost use Rattle.requests.specs.Request.{written, limitOf, Fault, readArguments, readRequest, requestAnswer};
+ghost use Rattle.requests.specs.Request.{remainderOf, writingRequest, requestWrittenTo};
 ghost use Rattle.requests.specs.Packed.{codeOf, argumentOf, packed, Holds, argumentsAnswer};
 use crate::number;
 use crate::number::NumberRead;
 use crate::number::Written;
+use formats::facts;
 use formats::facts::ContentId;
 use formats::facts::EntryNumber;
 use formats::facts::Facts;
@@ -117,30 +117,11 @@ fn argument_of(code: u64) -> Argument
     }
 }
 
-// 0 where a value is from `least` to `most`, else the refusal.
-fn range_limit(value: u64, least: u64, most: u64, refusal: u64) -> u64
-    ensures { λ r. ⌜ r ≡ unless (leb least value && leb value most) refusal ⌝ }
+// 0 where a value passes, else the refusal.
+fn limited(passes: bool, refusal: u64) -> u64
+    ensures { λ r. ⌜ r ≡ unless passes refusal ⌝ }
 {
-    if value < least {
-        return refusal;
-    }
-    if most < value {
-        return refusal;
-    }
-    0
-}
-
-// 0 where a CCI is 0, 2 or 3, else 6.
-fn cci_limit(value: u64) -> u64
-    ensures { λ r. ⌜ r ≡ unless (cciPasses value) 6 ⌝ }
-{
-    if 3 < value {
-        return refusal::FACTS;
-    }
-    if value == 1 {
-        return refusal::FACTS;
-    }
-    0
+    if passes { 0 } else { refusal }
 }
 
 // 0 where a value is within its argument's limit, else the refusal.
@@ -148,15 +129,25 @@ fn argument_limit(argument: Argument, value: u64) -> u64
     ensures { λ r. ⌜ r ≡ limit argument value ⌝ }
 {
     match argument {
-        Argument::Content => range_limit(value, 1, 999, refusal::CONTENT_ID),
-        Argument::Entry => range_limit(value, 1, 999, refusal::ENTRY_NUMBER),
-        Argument::Cci => cci_limit(value),
-        Argument::Trigger => range_limit(value, 0, 1, refusal::FACTS),
-        Argument::Rights => range_limit(value, 0, 15, refusal::FACTS),
-        Argument::Permits => range_limit(value, 0, 15, refusal::FACTS),
-        Argument::Key => range_limit(value, 0, 0xff_ffff_ffff_ffff, refusal::FACTS),
+        Argument::Content => limited(facts::is_numbered(value), refusal::CONTENT_ID),
+        Argument::Entry => limited(facts::is_numbered(value), refusal::ENTRY_NUMBER),
+        Argument::Cci => limited(facts::is_cci(value), refusal::FACTS),
+        Argument::Trigger => limited(facts::is_trigger(value), refusal::FACTS),
+        Argument::Rights => limited(facts::is_count(value), refusal::FACTS),
+        Argument::Permits => limited(facts::is_count(value), refusal::FACTS),
+        Argument::Key => limited(facts::is_key(value), refusal::FACTS),
         Argument::Any => 0,
     }
+}
+
+// 0 where a kind is 1 to 7, else 3.
+fn kind_limit(kind: u64) -> u64
+    ensures { λ r. ⌜ r ≡ kindLimit kind ⌝ }
+{
+    if kind < 1 {
+        return refusal::KIND;
+    }
+    limited(kind <= 7, refusal::KIND)
 }
 
 // A request as numbers.
@@ -391,7 +382,7 @@ pub fn read(s: &[u8]) -> RequestRead
     let NumberRead::Number { value: kind, len } = found else {
         return RequestRead::Refused(number_refusal(found));
     };
-    let w = range_limit(kind, 1, 7, refusal::KIND);
+    let w = kind_limit(kind);
     if w != 0 {
         return RequestRead::Refused(w);
     }

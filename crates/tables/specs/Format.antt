@@ -5,8 +5,8 @@ use mathlib.Core.Bool.{cond}
 use lib.Dec.{eqb}
 use lib.ListN.{length}
 use Rattle.formats.specs.Head.{freshLedger, freshTitles, freshRules}
+use Rattle.formats.specs.Facts.{numbered}
 use Rattle.calls.specs.Refusal.{Condition, _unless_, first}
-use Rattle.calls.specs.Conditions.{numbered}
 
 -- "Formatting tests 4, then exact lengths by 7, 8 and 9, and looks at no bytes."
 -- A ledger: "4 c not 1 to 999 (in formatting: R)", and a length of "24 × (R + 1) bytes"

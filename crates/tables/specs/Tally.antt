@@ -5,9 +5,9 @@ use mathlib.Core.Bool.{cond}
 use lib.Dec.{eqb}
 use Rattle.formats.specs.Answer.{Answer, done, refused}
 use Rattle.formats.specs.Head.{titlesPass, rulesPass}
+use Rattle.formats.specs.Facts.{numbered}
 use Rattle.calls.specs.Buffers.{copies}
 use Rattle.calls.specs.Refusal.{Condition, _unless_, first}
-use Rattle.calls.specs.Conditions.{numbered}
 use Rattle.tables.specs.declared.tally.Tallied.{Tallied}
 use Rattle.tables.specs.declared.tally.Tallied.the-variants.{Copies, Refused}
 

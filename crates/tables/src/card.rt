@@ -1,12 +1,11 @@
 // The entries of a card: an entry's two halves, as the parts of the tables that they occupy, and what the entry is.
 ghost use mathlib.Core.Path.{_≡_};
 ghost use Rattle.formats.specs.Half.{idOf};
-ghost use Rattle.formats.specs.Rule.{hashOf};
+ghost use Rattle.formats.specs.Rule.{triggerOf, rightsOf, hashOf};
 ghost use Rattle.formats.specs.Entry.{kindAnswer, kindOf, entryFacts};
 ghost use Rattle.calls.specs.Buffers.{titleAt, ruleAt, isFree, isCopy, isFull};
 ghost use Rattle.calls.specs.Conditions.{leavesKey, mayNotMove};
-ghost use Prim.Native.Nat.{ℕ};
-ghost use mathlib.Core.List.{List};
+use calls::count;
 use formats::entry;
 use formats::entry::EntryKind;
 use formats::facts::ContentId;
@@ -63,13 +62,10 @@ pub fn facts(titles: &[u8], rules: &[u8], entry: EntryNumber) -> Facts
 
 // Whether a full entry may not move: its trigger is 1, or no move right is left. Both stand in its rule half.
 pub fn may_not_move(rules: &[u8], entry: EntryNumber) -> bool
-    ensures { λ r. ⌜ ((title : List ℕ) → r ≡ mayNotMove (entryFacts title (ruleAt (now (rules .entry)) (entry .0)))) ⌝ }
+    ensures { λ r. ⌜ r ≡ mayNotMove (triggerOf (ruleAt (now (rules .entry)) (entry .0))) (rightsOf (ruleAt (now (rules .entry)) (entry .0))) ⌝ }
 {
     let rule = rule_half(rules, entry);
-    if rule::trigger(rule) == 1 {
-        return true;
-    }
-    rule::rights(rule) == 0
+    count::may_not_move(rule::trigger(rule), rule::rights(rule))
 }
 
 // The C_HASH in an entry's rule half.

@@ -8,6 +8,7 @@ ghost use Rattle.formats.specs.Half.{flaggedWith};
 ghost use Rattle.calls.specs.Buffers.{titleAt, copyOf, copies, one};
 ghost use Rattle.tables.specs.Copies.{copyAt, mayHold, inThree, anyOfThree};
 use crate::card;
+use formats::facts;
 use formats::facts::ContentId;
 use formats::facts::EntryNumber;
 use formats::half;
@@ -18,10 +19,7 @@ pub fn is_copy_of(title: &[u8], rule: &[u8], content: ContentId) -> bool
     ensures { λ r. ⌜ r ≡ copyOf (content .0) (now (title .entry)) (now (rule .entry)) ⌝ }
 {
     let id = content.0;
-    if id < 1 {
-        return false;
-    }
-    if 999 < id {
+    if !facts::is_numbered(id) {
         return false;
     }
     if half::usable_id(title) != id {

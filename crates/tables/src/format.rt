@@ -6,6 +6,7 @@ ghost use Prim.Native.Nat.{_-_, _≤_};
 ghost use lib.ListN.{length, replicate};
 ghost use Rattle.formats.specs.Head.{tableHead};
 ghost use Rattle.tables.specs.Format.{ledgerFormatting, formattedLedger, cardFormatting, formattedTitles, formattedRules};
+use formats::facts;
 use formats::field;
 use formats::refusal;
 
@@ -48,10 +49,7 @@ pub fn format_ledger(ledger: &mut [u8], rows: u64, application: u16) -> u64
     ensures { λ r. ⌜ r ≡ ledgerFormatting (now (ledger .entry)) rows ⌝ }
     ensures { λ _. ⌜ now (ledger .exit) ≡ formattedLedger (now (ledger .entry)) rows application ⌝ }
 {
-    if rows < 1 {
-        return refusal::CONTENT_ID;
-    }
-    if 999 < rows {
+    if !facts::is_numbered(rows) {
         return refusal::CONTENT_ID;
     }
     if ledger.len() as u64 != 24 * (rows + 1) {

@@ -2,6 +2,7 @@
 ghost use mathlib.Core.Path.{_≡_};
 ghost use Rattle.tables.specs.Tally.{tallyAnswer, tallied};
 use crate::copies;
+use formats::facts;
 use formats::facts::ContentId;
 use formats::head;
 use formats::refusal;
@@ -15,11 +16,7 @@ pub enum Tallied {
 pub fn tally(titles: &[u8], rules: &[u8], content: ContentId) -> Tallied
     ensures { λ r. ⌜ tallyAnswer r ≡ tallied (now (titles .entry)) (now (rules .entry)) (content .0) ⌝ }
 {
-    let id = content.0;
-    if id < 1 {
-        return Tallied::Refused(refusal::CONTENT_ID);
-    }
-    if 999 < id {
+    if !facts::is_numbered(content.0) {
         return Tallied::Refused(refusal::CONTENT_ID);
     }
     let w = head::check_titles(titles);

@@ -4,9 +4,18 @@ use Prim.Native.Nat.{ℕ, _≤_}
 use mathlib.Core.Path.{_≡_, ap}
 use mathlib.Core.Bool.{true, not}
 use borrow.Author.Tests.{le-leb, leb-true, ne-eqb, eqb-false, not-true}
-use Rattle.formats.specs.Facts.{inRange}
+use Rattle.formats.specs.Facts.{numbered, inRange}
 use Rattle.formats.specs.declared.facts.Facts.{Facts}
 use Rattle.formats.proofs.Tests.{split, both}
+
+-- "1 to 999", as a test and as facts
+pub numbered-range : (v : ℕ) → numbered v ≡ true → (1 ≤ v) × (v ≤ 999)
+numbered-range v e =
+    let (p, q) = split _ _ e in
+    (leb-true _ _ p, leb-true _ _ q)
+
+pub range-numbered : {v : ℕ} → 1 ≤ v → v ≤ 999 → numbered v ≡ true
+range-numbered p q = both (le-leb _ _ p) (le-leb _ _ q)
 
 -- facts in their ranges
 pub record Ranges (f : Facts) : Type 0 where

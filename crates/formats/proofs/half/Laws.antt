@@ -14,6 +14,7 @@ use lib.Seq.{getD-drop}
 use borrow.Author.Tests.{le-leb, lt-leb, lt-ltb, le-ltb, eq-eqb, ne-eqb, eqb-false, not-true}
 use Rattle.formats.specs.Part.{part, put}
 use Rattle.formats.specs.Field.{number, bytesOf, little}
+use Rattle.formats.specs.Facts.{numbered}
 use Rattle.formats.specs.Half.{keyOf, flagOf, idOf, usableOf, usableId, flaggedWith, halfBytes, wiped, changedHalf}
 use Rattle.formats.proofs.Part.{part-length, put-length, getD-put-before, part-put-before}
 use Rattle.formats.specs.Bytes.{Bytes}
@@ -272,19 +273,15 @@ marked id =
 module _ (c : ℕ) (h : List ℕ) where
   pub without-use : usableOf h ≡ false → false ≡ flaggedWith c h
   unfolding flaggedWith
-  without-use e = by (leb 1 c && leb c 999)
+  without-use e = by (numbered c)
     where
       by : (b : Bool) → false ≡ (b && (usableOf h && eqb (idOf h) c))
       by true = sym (ap (λ (u : Bool). u && eqb (idOf h) c) e)
       by false = refl
 
-  pub below-one : c < 1 → false ≡ flaggedWith c h
+  pub not-numbered : numbered c ≡ false → false ≡ flaggedWith c h
   unfolding flaggedWith
-  below-one few = simp (lt-leb 1 c few)
-
-  pub above-most : 1 ≤ c → 999 < c → false ≡ flaggedWith c h
-  unfolding flaggedWith
-  above-most some many = simp (le-leb 1 c some, lt-leb c 999 many)
+  not-numbered e = sym (ap (λ (b : Bool). b && (usableOf h && eqb (idOf h) c)) e)
 
   -- flag and ID compared at once
   module _ (byte : Bytes h) (size : 16 ≤ length h) (some : 1 ≤ c) (few : c ≤ 999) where

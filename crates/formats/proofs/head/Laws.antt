@@ -17,20 +17,22 @@ use Rattle.formats.proofs.Part.{part-length, getD-part, part-inside}
 use Rattle.formats.specs.Bytes.{Bytes}
 use Rattle.formats.proofs.Bytes.{Listed, none, more, bytes, then, zeros, field}
 use Rattle.formats.proofs.field.Laws.{length-bytesOf, number-whole}
+use Rattle.formats.specs.Facts.{numbered}
+use Rattle.formats.proofs.facts.Laws.{numbered-range, range-numbered}
 use Rattle.formats.proofs.Tests.{split, both, either, one-holds, refuses}
 
 -- a ledger that passes has a right head
 pub ledger-head : (l : List ℕ) → ledgerPasses l ≡ true → LedgerHead l
 unfolding ledgerPasses
 ledger-head l e =
-    let (p, q) = split _ _ e in
-    let (r, s) = split _ _ q in
-    record { low = leb-true _ _ p; high = leb-true _ _ r; size = eqb-true _ _ s }
+    let (p, q) = split (numbered (rowsOf l)) _ e in
+    let (low, high) = numbered-range (rowsOf l) p in
+    record { low = low; high = high; size = eqb-true _ _ q }
 
 -- and a ledger with a right head passes
 pub ledger-passes : {l : List ℕ} → LedgerHead l → ledgerPasses l ≡ true
 unfolding ledgerPasses
-ledger-passes h = both (le-leb _ _ (h .low)) (both (le-leb _ _ (h .high)) (eq-eqb _ _ (h .size)))
+ledger-passes h = both (range-numbered (h .low) (h .high)) (eq-eqb _ _ (h .size))
 
 -- a table that passes has them
 pub table-head : {identifier size width mark : ℕ} {t : List ℕ} → tablePasses identifier size width mark t ≡ true → TableHead identifier size width mark t

@@ -9,8 +9,8 @@ use borrow.Author.Tests.{eq-eqb, ne-eqb}
 use Rattle.formats.specs.Answer.{done, refused}
 use Rattle.formats.specs.Head.{titlesPass, titlesAnswer, rulesPass, rulesAnswer}
 use Rattle.formats.proofs.Tests.{passed}
+use Rattle.formats.specs.Facts.{numbered}
 use Rattle.calls.specs.Buffers.{copies}
-use Rattle.calls.specs.Conditions.{numbered}
 use Rattle.tables.specs.Tally.{tallyRefusal, tallied}
 use Rattle.calls.proofs.Refusals.{fails, holds, end, answers}
 

@@ -3,9 +3,11 @@
 use Prim.Native.Nat.{ℕ}
 use mathlib.Core.Path.{_≡_, ap, _∙_}
 use mathlib.Core.List.{List}
+use mathlib.Core.Bool.{Bool}
 use lib.ListN.{drop}
 use borrow.Author.Needs.{needs}
 use borrow.Author.Tests.{not-true, not-false}
+use Rattle.formats.specs.declared.facts.Facts.{Facts}
 use Rattle.requests.specs.declared.request.Request.the-variants.{MoveIn}
 use Rattle.calls.specs.Buffers.{lent, isFree, isHere, hereFacts}
 use Rattle.calls.specs.Refusal.{Condition, first}
@@ -28,12 +30,18 @@ is-free hash k = skip 10 _ _ _ (denied (of-kind isFree (k .before .is-free .ensu
 is-here : (hash : ℕ) (k : tie.Else2) {n : ℕ} → n ≡ first (drop 2 (tests hash (k .before .before .before))) → n ≡ first (tests hash (k .before .before .before))
 is-here hash k q = is-free hash (k .before .before .before) (skip 11 _ _ _ (denied (of-row isHere (k .before .is-here .ensures) (k .before .before .state .ensures)) (k .if2 .left)) q)
 
-may-move : (hash : ℕ) (k : tie.Else3) {n : ℕ} → n ≡ first (drop 3 (tests hash (k .before .before .before .before .before .before)))
-    → n ≡ first (tests hash (k .before .before .before .before .before .before))
+-- whether facts forbid a move
+abbrev move-of : Facts → Bool
+move-of f = mayNotMove (f .trigger) (f .rights)
+
+abbrev kind-3 : tie.Else3 → tie.Else1
+kind-3 k = k .before .before .before .before .before .before
+
+may-move : (hash : ℕ) (k : tie.Else3) {n : ℕ} → n ≡ first (drop 3 (tests hash (kind-3 k))) → n ≡ first (tests hash (kind-3 k))
 may-move hash k q =
     let row = k .before .before .before in
     let facts = of-row hereFacts (k .before .before .here-facts .ensures) (row .before .before .state .ensures) in
-    is-here hash row (skip 12 _ _ _ (told (k .before .may-not-move .ensures ∙ ap mayNotMove facts) (k .if3 .left)) q)
+    is-here hash row (skip 12 _ _ _ (told (k .before .may-not-move .ensures ∙ ap move-of facts) (k .if3 .left)) q)
 
 returns : tie.Need-returns
 returns c hash = hit 10 _ _ (denied (of-kind isFree (c .before .is-free .ensures) (c .before .before .kind .ensures)) (c .if1 .taken))
@@ -47,7 +55,7 @@ returns-3 : tie.Need-returns-3
 returns-3 c hash =
     let row = c .before .before .before in
     let facts = of-row hereFacts (c .before .before .here-facts .ensures) (row .before .before .state .ensures) in
-    is-here hash row (hit 12 _ _ (told (c .before .may-not-move .ensures ∙ ap mayNotMove facts) (c .if3 .taken)))
+    is-here hash row (hit 12 _ _ (told (c .before .may-not-move .ensures ∙ ap move-of facts) (c .if3 .taken)))
 
 returns-4 : tie.Need-returns-4
 returns-4 c hash = may-move hash (c .before .before) (skip 14 _ _ _ (told (c .before .any .ensures) (not-true _ (c .if4 .taken))) end)

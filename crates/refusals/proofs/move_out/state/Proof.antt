@@ -5,6 +5,7 @@ use mathlib.Core.Path.{_≡_}
 use mathlib.Core.List.{List}
 use lib.ListN.{drop}
 use borrow.Author.Needs.{needs}
+use Rattle.formats.specs.Entry.{entryFacts}
 use Rattle.requests.specs.declared.request.Request.the-variants.{MoveOut}
 use Rattle.calls.specs.Buffers.{lent, isFull, isAway}
 use Rattle.calls.specs.Refusal.{Condition, first}
@@ -36,10 +37,11 @@ abbrev kind-4 : tie.Else4 → tie.Else1
 kind-4 k = kind-2 (k .before .before .before .before)
 
 same-hash : (k : tie.Else4) {n : ℕ} → n ≡ first (drop 4 (tests (kind-4 k))) → n ≡ first (tests (kind-4 k))
+unfolding entryFacts
 same-hash k q =
     let facts = k .before .before in
     is-away (facts .before .before)
-    (skip 12 _ _ _ (told (facts .before .may-not-move .ensures _) (facts .if3 .left))
+    (skip 12 _ _ _ (told (facts .before .may-not-move .ensures) (facts .if3 .left))
     (skip 13 _ _ _ (hash-same (k .before .hash .ensures) (k .if4 .left)) q))
 
 returns : tie.Need-returns
@@ -52,13 +54,15 @@ returns-2 c =
     (hit 11 _ _ (denied (of-its-row isAway _ (c .before .is-away .ensures) (state .state .ensures) (state .before .content .ensures)) (c .if2 .taken)))
 
 returns-3 : tie.Need-returns-3
-returns-3 c = is-away (c .before .before) (hit 12 _ _ (told (c .before .may-not-move .ensures _) (c .if3 .taken)))
+unfolding entryFacts
+returns-3 c = is-away (c .before .before) (hit 12 _ _ (told (c .before .may-not-move .ensures) (c .if3 .taken)))
 
 returns-4 : tie.Need-returns-4
+unfolding entryFacts
 returns-4 c =
     let facts = c .before .before in
     is-away (facts .before .before)
-    (skip 12 _ _ _ (told (facts .before .may-not-move .ensures _) (facts .if3 .left)) (hit 13 _ _ (hash-other (c .before .hash .ensures) (c .if4 .taken))))
+    (skip 12 _ _ _ (told (facts .before .may-not-move .ensures) (facts .if3 .left)) (hit 13 _ _ (hash-other (c .before .hash .ensures) (c .if4 .taken))))
 
 returns-5 : tie.Need-returns-5
 returns-5 c = same-hash (c .before .before) (hit 16 _ _ (or-first _ (told (c .before .leaves-title-key .ensures) (c .if5 .taken))))

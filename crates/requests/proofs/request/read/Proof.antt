@@ -27,7 +27,7 @@ returns c =
 returns-2 : tie.Need-returns-2
 returns-2 c =
     let x = c .before .before .before in
-    let limit = c .before .range-limit .ensures in
+    let limit = c .before .kind-limit .ensures in
     ap requestAnswer
     (ap Refused limit ∙ sym (kind-limit _ (sym (same-number (x .before .before .read .ensures)) ∙ x .found .given .1) (λ y. c .if1 .taken (limit ∙ y))))
 
@@ -48,7 +48,7 @@ kind-read c =
     let x = c .before .before .before .before .before in
     record {
       number-is = sym (same-number (x .before .before .read .ensures)) ∙ x .found .given .1;
-      passes = sym (c .before .before .before .range-limit .ensures) ∙ c .before .before .if1 .left;
+      passes = sym (c .before .before .before .kind-limit .ensures) ∙ c .before .before .if1 .left;
       asked = c .read-arguments .ensures;
     }
 
