@@ -35,13 +35,14 @@ mod writers;
 
 ghost use mathlib.Core.Path.{_≡_};
 ghost use Prim.Native.Nat.{_≤_};
-ghost use lib.ListN.{length};
+ghost use lib.ListN.{length, replicate};
 ghost use Rattle.edges.specs.Cases.{digitOf, leaves};
 use crate::writers::Numbers;
 use formats::table;
 
-// Room for all lines, and for the bytes of a case: the longest table and what stands before it.
+// Room for all lines.
 fn room() -> [u8; 262144]
+    ensures { λ r. ⌜ r ≡ replicate 262144 0 ⌝ }
     ensures { λ r. ⌜ 262144 ≡ length r ⌝ }
 {
     [0; 262144]
@@ -72,7 +73,8 @@ fn digit(x: u8) -> u8
     16
 }
 
-// Each digit goes into the bytes of the case that its line spells; where the line ends, the case is answered.
+// Each digit goes into the bytes of the case that its line spells; where the line ends, the case is answered. A case has room
+// for the longest table that is tried, 32,001 bytes, and for what stands before it.
 fn cases(text: &[u8]) {
     let mut case = [0u8; 32100];
     let mut digits: usize = 0;

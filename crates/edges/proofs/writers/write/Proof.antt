@@ -9,8 +9,23 @@ use Rattle.edges.proofs.writers.write.Tie as tie
 no-code : tie.Need-returns-13
 unfolding leaves
 no-code c =
-    let r = c .match .rest in
-    simp (ne-eqb _ _ (r .0 .0 .0 .0 .0 .0 .0 .0 .0 .0 .0 .1), ne-eqb _ _ (r .0 .0 .0 .0 .0 .0 .0 .0 .0 .0 .1), ne-eqb _ _ (r .0 .0 .0 .0 .0 .0 .0 .0 .0 .1), ne-eqb _ _ (r .0 .0 .0 .0 .0 .0 .0 .0 .1), ne-eqb _ _ (r .0 .0 .0 .0 .0 .0 .0 .1), ne-eqb _ _ (r .0 .0 .0 .0 .0 .0 .1), ne-eqb _ _ (r .0 .0 .0 .0 .0 .1), ne-eqb _ _ (r .0 .0 .0 .0 .1), ne-eqb _ _ (r .0 .0 .0 .1), ne-eqb _ _ (r .0 .0 .1), ne-eqb _ _ (r .0 .1), ne-eqb _ _ (r .1))
+    let last = c .match .rest in
+    let middle = last .0 .0 .0 .0 in
+    let first = middle .0 .0 .0 .0 in
+    simp (
+      ne-eqb _ _ (first .0 .0 .0 .1),
+      ne-eqb _ _ (first .0 .0 .1),
+      ne-eqb _ _ (first .0 .1),
+      ne-eqb _ _ (first .1),
+      ne-eqb _ _ (middle .0 .0 .0 .1),
+      ne-eqb _ _ (middle .0 .0 .1),
+      ne-eqb _ _ (middle .0 .1),
+      ne-eqb _ _ (middle .1),
+      ne-eqb _ _ (last .0 .0 .0 .1),
+      ne-eqb _ _ (last .0 .0 .1),
+      ne-eqb _ _ (last .0 .1),
+      ne-eqb _ _ (last .1),
+    )
 
 pub write-spec : {M : Type 1} → statement M
 unfolding leaves
