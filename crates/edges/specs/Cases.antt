@@ -11,7 +11,6 @@ use Rattle.formats.specs.Title.{titleHalf}
 use Rattle.formats.specs.Rule.{ruleHalf, wipedRule}
 use Rattle.formats.specs.Row.{hereRow, plainRow, withPermits}
 use Rattle.formats.specs.declared.facts.Facts.{Facts}
-use Rattle.formats.specs.declared.facts.Fillers.{Fillers}
 use Rattle.requests.specs.Number.{groups, writtenTo}
 use Rattle.edges.specs.declared.writers.Numbers.{Numbers}
 
@@ -44,9 +43,6 @@ factsFrom v =
       «sti_key» = v .six;
     }
 
-abbrev pub fillersFrom : Numbers → Fillers
-fillersFrom v = record { f1 = v .one; f2 = v .two; f3 = v .three; f4 = v .four }
-
 -- what a case of this code with these numbers leaves of its part
 unfoldable pub leaves : ℕ → Numbers → List ℕ → List ℕ
 leaves code v p =
@@ -59,7 +55,7 @@ leaves code v p =
     (cond (eqb code 0x28) (put p (v .two) (fitting p (v .two) (groups (v .one))))
     (cond (eqb code 0x38) (replaced 16 (titleHalf (v .one) (v .two) (v .three)) p)
     (cond (eqb code 0x39) (changedHalf (put p 0 (halfBytes (v .one % 256) (v .two) (v .three))) p)
-    (cond (eqb code 0x48) (replaced 32 (wipedRule p (fillersFrom v)) p)
+    (cond (eqb code 0x48) (replaced 32 (wipedRule p (record { f1 = v .one; f2 = v .two; f3 = v .three; f4 = v .four })) p)
     (cond (eqb code 0x68) (replaced 24 (hereRow (factsFrom v)) p)
     (cond (eqb code 0x88) (replaced 32 (ruleHalf (factsFrom v) (v .seven) (v .eight)) p)
     p)))))))))))

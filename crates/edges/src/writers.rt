@@ -1,6 +1,6 @@
 // What a case writes to.
 ghost use mathlib.Core.Path.{_≡_};
-ghost use Rattle.edges.specs.Cases.{numbersOf, leaves, factsFrom, fillersFrom};
+ghost use Rattle.edges.specs.Cases.{numbersOf, leaves, factsFrom};
 use crate::print;
 use formats::facts::ContentId;
 use formats::facts::Facts;
@@ -53,17 +53,6 @@ fn facts(v: Numbers) -> Facts
     }
 }
 
-fn fillers(v: Numbers) -> Fillers
-    ensures { λ r. ⌜ r ≡ fillersFrom v ⌝ }
-{
-    Fillers {
-        f1: v.one,
-        f2: v.two,
-        f3: v.three,
-        f4: v.four,
-    }
-}
-
 // Writes to the part; a case that only reads leaves it as it is.
 pub fn write(code: u8, v: Numbers, part: &mut [u8])
     ensures { λ _. ⌜ now (part .exit) ≡ leaves code v (now (part .entry)) ⌝ }
@@ -78,7 +67,15 @@ pub fn write(code: u8, v: Numbers, part: &mut [u8])
         0x28 => print::number(number::write_at(v.one, part, v.two as usize) as u64),
         0x38 => title::write(part, v.one, v.two, ContentId(v.three)),
         0x39 => half::write(part, field::low_byte(v.one), v.two, ContentId(v.three)),
-        0x48 => rule::wipe(part, fillers(v)),
+        0x48 => rule::wipe(
+            part,
+            Fillers {
+                f1: v.one,
+                f2: v.two,
+                f3: v.three,
+                f4: v.four,
+            },
+        ),
         0x68 => row::write_here(part, facts(v)),
         0x88 => rule::write(part, facts(v), v.seven, ContentId(v.eight)),
         _ => {}
