@@ -125,8 +125,13 @@ fn stream(requests: &[u8]) {
     let mut rules = [0u8; 32000];
     format::format_ledger(&mut ledger, 4, 0);
     format::format_card(&mut titles, &mut rules, 0);
-    print::number(serve::all(&mut ledger, &mut titles, &mut rules, requests));
-    print::bytes(table::part(&ledger, 24, 96));
-    print::bytes(table::part(&titles, 16, 64));
-    print::bytes(table::part(&rules, 32, 128));
+    let answer = serve::all(&mut ledger, &mut titles, &mut rules, requests);
+    served(answer, &ledger, &titles, &rules);
+}
+
+fn served(answer: u64, ledger: &[u8], titles: &[u8], rules: &[u8]) {
+    print::number(answer);
+    print::bytes(table::part(ledger, 24, 96));
+    print::bytes(table::part(titles, 16, 64));
+    print::bytes(table::part(rules, 32, 128));
 }
