@@ -1,5 +1,6 @@
 -- What the parts of a case are, and what a case writes.
 use Prim.Native.Nat.{ℕ, _-_, _%_}
+use mathlib.Core.Path.{_≡_}
 use mathlib.Core.List.{List}
 use mathlib.Core.Bool.{cond}
 use lib.ListN.{length}
@@ -18,19 +19,16 @@ use Rattle.edges.specs.declared.writers.Numbers.{Numbers}
 abbrev pub digitOf : ℕ → ℕ
 digitOf x = cond (ltb x 48) 16 (cond (leb x 57) (x - 48) (cond (ltb x 65) 16 (cond (leb x 70) (x - 55) 16)))
 
--- the numbers of a case, of 8 bytes each, after its first byte
-unfoldable pub numbersOf : List ℕ → Numbers
-numbersOf case =
-    record {
-      one = number (part case 1 8);
-      two = number (part case 9 8);
-      three = number (part case 17 8);
-      four = number (part case 25 8);
-      five = number (part case 33 8);
-      six = number (part case 41 8);
-      seven = number (part case 49 8);
-      eight = number (part case 57 8);
-    }
+-- v has the numbers of a case, of 8 bytes each, after its first byte
+pub record NumbersOf (case : List ℕ) (v : Numbers) : Type 0 where
+  pub one : v .one ≡ number (part case 1 8)
+  pub two : v .two ≡ number (part case 9 8)
+  pub three : v .three ≡ number (part case 17 8)
+  pub four : v .four ≡ number (part case 25 8)
+  pub five : v .five ≡ number (part case 33 8)
+  pub six : v .six ≡ number (part case 41 8)
+  pub seven : v .seven ≡ number (part case 49 8)
+  pub eight : v .eight ≡ number (part case 57 8)
 
 abbrev pub factsFrom : Numbers → Facts
 factsFrom v =

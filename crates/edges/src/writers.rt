@@ -1,6 +1,6 @@
 // What a case writes to.
 ghost use mathlib.Core.Path.{_≡_};
-ghost use Rattle.edges.specs.Cases.{numbersOf, leaves, factsFrom};
+ghost use Rattle.edges.specs.Cases.{NumbersOf, leaves, factsFrom};
 use crate::print;
 use formats::facts::ContentId;
 use formats::facts::Facts;
@@ -26,7 +26,7 @@ pub struct Numbers {
 }
 
 pub fn numbers_of(case: &[u8]) -> Numbers
-    ensures { λ r. ⌜ r ≡ numbersOf (now (case .entry)) ⌝ }
+    ensures { λ r. ⌜ NumbersOf (now (case .entry)) r ⌝ }
 {
     Numbers {
         one: field::read_at(case, 1, 8),
