@@ -15,7 +15,7 @@ expected: target/host/edges
 	target/host/edges cases | cmp - crates/edges/stdin
 	target/host/edges answers | cmp - crates/edges/stdout
 
-target/host/edges: host/edges/main.rs host/edges/calls.rs
+target/host/edges: host/edges/main.rs $(wildcard host/edges/*.rs)
 	@mkdir -p target/host
 	rustc --edition 2021 -O -o $@ $<
 

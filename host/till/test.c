@@ -537,34 +537,50 @@ static void facts(void)
             }
 }
 
+/* Tables and arguments such that f is done, with these keys. */
+static void begin_with_keys(const struct function *f, uint64_t title_key, uint64_t sti_key)
+{
+    begin(f, 64, 5, 7);
+    a.title_key = title_key;
+    a.sti_key = sti_key;
+    f->ready();
+}
+
 /* A filler that leaves a key is refused, whatever its top byte; the last bit decides. */
+static void fillers_for(const struct function *f, uint64_t title_key, uint64_t sti_key, uint64_t top)
+{
+    begin_with_keys(f, title_key, sti_key);
+    a.f1 = top + title_key;
+    CHECK(f, 16);
+    begin_with_keys(f, title_key, sti_key);
+    a.f1 = top + (title_key ^ 1);
+    CHECK(f, 0);
+    begin_with_keys(f, title_key, sti_key);
+    a.f2 = top + sti_key;
+    put(&rules, 32 * 7 + 1, 7, sti_key); /* beside a copy it is no key */
+    CHECK(f, f->kind == FULL ? 16 : 0);
+    begin_with_keys(f, title_key, sti_key);
+    a.f2 = top + (sti_key ^ (KEY_LIMIT >> 1));
+    CHECK(f, 0);
+    begin_with_keys(f, title_key, sti_key);
+    a.f1 = top + sti_key;
+    a.f2 = top + title_key;
+    CHECK(f, 0);
+    begin_with_keys(f, title_key, sti_key);
+    a.f1 = top + title_key;
+    a.f2 = top + sti_key;
+    CHECK(f, 16);
+}
+
 static void fillers(void)
 {
+    static const uint64_t keys[][2] = {{0x11223344556677, 0x8899aabbccddee}, {0, KEY_LIMIT - 1}, {KEY_LIMIT - 1, 0}};
     static const uint64_t tops[] = {0, 1, 0x80, 0xff};
 
-    for (size_t i = 0; i < FUNCTIONS; i++) {
-        const struct function *f = &functions[i];
-
-        for (size_t k = 0; k < COUNT_OF(tops) && refuses(f, 16); k++) {
-            begin(f, 64, 5, 7);
-            a.f1 = (tops[k] << 56) + a.title_key;
-            CHECK(f, 16);
-            begin(f, 64, 5, 7);
-            a.f1 = (tops[k] << 56) + (a.title_key ^ 1);
-            CHECK(f, 0);
-            begin(f, 64, 5, 7);
-            a.f2 = (tops[k] << 56) + a.sti_key;
-            put(&rules, 32 * 7 + 1, 7, a.sti_key); /* beside a copy it is no key */
-            CHECK(f, f->kind == FULL ? 16 : 0);
-            begin(f, 64, 5, 7);
-            a.f2 = (tops[k] << 56) + (a.sti_key ^ (KEY_LIMIT >> 1));
-            CHECK(f, 0);
-            begin(f, 64, 5, 7);
-            a.f1 = (tops[k] << 56) + a.sti_key;
-            a.f2 = (tops[k] << 56) + a.title_key;
-            CHECK(f, 0);
-        }
-    }
+    for (size_t i = 0; i < FUNCTIONS; i++)
+        for (size_t n = 0; n < COUNT_OF(keys) && refuses(&functions[i], 16); n++)
+            for (size_t k = 0; k < COUNT_OF(tops); k++)
+                fillers_for(&functions[i], keys[n][0], keys[n][1], tops[k] << 56);
 }
 
 static void hashes(void)
@@ -660,7 +676,7 @@ static void versions(void)
     }
 }
 
-/* A head that says another R than its length; R 1 and R 999. */
+/* A head that says another R than its length. */
 static void row_counts(void)
 {
     static const uint64_t said[] = {0, 1, 63, 65, 999, 1000, 64 + 256, 65535};
@@ -675,12 +691,6 @@ static void row_counts(void)
             put(&ledger, 2, 2, said[k]);
             CHECK(f, 7);
         }
-        begin(f, 1, 1, 999);
-        CHECK(f, 0);
-        begin(f, 1, 2, 999);
-        CHECK(f, refuses(f, 11) ? 11 : 0);
-        begin(f, 999, 999, 1);
-        CHECK(f, 0);
         begin(f, 64, 5, 7);
         resize(&ledger, 24);
         put(&ledger, 2, 2, 0);
@@ -692,11 +702,60 @@ static void row_counts(void)
     }
 }
 
+/* Rows and entries at the ends of their tables and past 255, and rows above R, which an entry may name too. */
+static void places(void)
+{
+    static const struct { uint64_t rows, c, j; } places[] = {
+        {1, 1, 999}, {1, 2, 999}, {999, 999, 1}, {999, 1, 999}, {300, 256, 512}, {64, 64, 7}, {64, 65, 7}, {64, 999, 7},
+    };
+
+    for (size_t i = 0; i < FUNCTIONS; i++) {
+        const struct function *f = &functions[i];
+
+        for (size_t k = 0; k < COUNT_OF(places) && refuses(f, 7) && f->ready != ready_format; k++) {
+            begin(f, places[k].rows, places[k].c, places[k].j);
+            CHECK(f, places[k].c > places[k].rows && refuses(f, 11) ? 11 : 0);
+        }
+    }
+}
+
+/* Applications of which ledger and card agree; and a trigger of 1, which goes along where nothing asks for it. */
+static void applications_and_triggers(void)
+{
+    static const uint64_t applications[] = {0, 1, 0x00ff, 0xff00, 0xffff};
+
+    for (size_t i = 0; i < FUNCTIONS; i++) {
+        const struct function *f = &functions[i];
+
+        for (size_t k = 0; k < COUNT_OF(applications) && f->ready != ready_format; k++) {
+            begin(f, 64, 5, 7);
+            put(&ledger, 0, 2, applications[k]);
+            put(&rules, 8, 2, applications[k]);
+            CHECK(f, 0);
+        }
+        begin(f, 64, 5, 7);
+        a.trigger = 1;
+        f->ready();
+        CHECK(f, f == named("move out") || f == named("move in") ? 12 : 0);
+    }
+}
+
 static void formatting(void)
 {
     static const uint64_t rows[] = {0, 1, 2, 64, 255, 256, 998, 999, 1000, 65535, 65536 + 2, ((uint64_t)1 << 61) + 1, TOP};
-    static const uint64_t applications[] = {0, 1, 0x00ff, 0xff00, 0xffff};
+    static const uint64_t applications[] = {0, 1, 0x00ff, 0xff00, 0xeeee, 0xffff};
+    /* the lengths that an R out of range would ask for, also with R cut to 16 or 32 bits, or 24 (R + 1) to 64 */
+    static const struct { uint64_t rows; size_t length; } out_of_range[] = {
+        {0, 0}, {0, 24}, {1000, 24024}, {65535, 24}, {65536 + 2, 72}, {(uint64_t)1 << 32, 24}, {((uint64_t)1 << 61) + 1, 48},
+        {TOP, 0}, {TOP, 24},
+    };
 
+    for (size_t k = 0; k < COUNT_OF(out_of_range); k++) {
+        begin(named("format ledger"), 64, 5, 7);
+        a.rows = out_of_range[k].rows;
+        resize(&ledger, out_of_range[k].length);
+        CHECK(named("format ledger"), 4);
+    }
     for (size_t k = 0; k < COUNT_OF(rows); k++)
         for (size_t step = 0; step < 3; step++) {
             begin(named("format ledger"), 64, 5, 7);
@@ -833,23 +892,29 @@ static void set_bits(struct buffer *b, size_t at, unsigned bits)
     put_byte(b, at, wanted(b)[at] | bits);
 }
 
-/* Reserved bits before a write or a wipe: a write leaves none, a wipe keeps those that it does not name. */
-static void reserved_bits(void)
+/* Sets every reserved bit of an entry. */
+static void set_reserved_bits(uint64_t j)
 {
     static const uint8_t title_bits[16] = {0xfc, 0, 0, 0, 0, 0, 0, 0, 0x7f, 0xff, 0xff, 0xff, 0xff, 0xff, 0xfc, 0};
     static const uint8_t rule_bits[32] = {0xff, 0, 0, 0, 0, 0, 0, 0, 0x7f, 0xff, 0xff, 0xff, 0xff, 0xff, 0xfc, 0,
                                           0x7f, 0, 0, 0, 0, 0, 0, 0, 0, 0, 0xff, 0xff, 0xff, 0xff, 0xff, 0xff};
 
+    for (size_t at = 0; at < 16; at++)
+        set_bits(&titles, 16 * j + at, title_bits[at]);
+    for (size_t at = 0; at < 32; at++)
+        set_bits(&rules, 32 * j + at, rule_bits[at]);
+}
+
+/* Reserved bits before a write or a wipe: a write leaves none, a wipe keeps those that it does not name. */
+static void reserved_bits(void)
+{
     for (size_t i = 0; i < FUNCTIONS; i++) {
         const struct function *f = &functions[i];
 
         if (f->kind == NO_ENTRY)
             continue;
         begin(f, 64, 5, 7);
-        for (size_t at = 0; at < 16; at++)
-            set_bits(&titles, 16 * 7 + at, title_bits[at]);
-        for (size_t at = 0; at < 32; at++)
-            set_bits(&rules, 32 * 7 + at, rule_bits[at]);
+        set_reserved_bits(7);
         CHECK(f, 0);
         /* stale IDs with flag 0, and any key */
         if (f->kind == FREE) {
@@ -862,6 +927,25 @@ static void reserved_bits(void)
             put(&rules, 32 * 7 + 24, 8, TOP);
             CHECK(f, 0);
         }
+    }
+}
+
+/* Bytes of the rows and halves beside those of a call: a step over the edge shows, also one that writes zeros. */
+static void neighbours(void)
+{
+    for (size_t i = 0; i < FUNCTIONS; i++) {
+        const struct function *f = &functions[i];
+
+        if (f->ready == ready_format)
+            continue;
+        begin(f, 64, 5, 7);
+        put_byte(&ledger, 24 * 5 - 1, 0xff);
+        put_byte(&ledger, 24 * 6, 0xff);
+        put_byte(&titles, 16 * 7 - 1, 0xff);
+        put_byte(&titles, 16 * 8, 0xff);
+        put_byte(&rules, 32 * 7 - 1, 0xff);
+        put_byte(&rules, 32 * 8, 0xff);
+        CHECK(f, 0);
     }
 }
 
@@ -927,6 +1011,9 @@ static void copies_beside(void)
         title_half(entries[k], 5);
         put_byte(&titles, 16 * entries[k], 1);
         CHECK(f, 0);
+        begin(f, 64, 5, 7);
+        halves(entries[k], 1, 5, 1, 6);
+        CHECK(f, 0);
     }
     begin(f, 64, 5, 7);
     halves(0, 1, 5, 0, 0);
@@ -969,6 +1056,35 @@ static void tallies(void)
     }
 }
 
+/* Entries 3 to 9 with a title half and entries 5 to 11 with a rule half, of all flags and IDs: only a copy is counted. */
+static void tally_of(uint64_t title_flag, uint64_t title_id, uint64_t cci, uint64_t rule_flag, uint64_t rule_id)
+{
+    uint64_t count = 0;
+
+    begin(named("format ledger"), 64, 5, 7);
+    fresh_card(APPLICATION);
+    for (uint64_t j = 3; j <= 11; j++) {
+        uint64_t title = j <= 9 ? title_flag : 0, rule = j >= 5 ? rule_flag : 0;
+
+        halves(j, title, title_id, rule, rule_id);
+        put(&titles, 16 * j, 1, cci);
+        if (j % 2 == 0)
+            set_reserved_bits(j);
+        count += title_id == 5 && kind_of(title, title_id, cci, rule, rule_id) == COPY;
+    }
+    want_copies(__LINE__, count);
+}
+
+static void tallies_of_kinds(void)
+{
+    static const uint64_t ids[] = {0, 5, 6, 1000};
+
+    for (unsigned flags = 0; flags < 4; flags++)
+        for (size_t k = 0; k < COUNT_OF(ids) * COUNT_OF(ids); k++)
+            for (uint64_t cci = 0; cci < 4; cci++)
+                tally_of(flags % 2, ids[k % COUNT_OF(ids)], cci, flags / 2, ids[k / COUNT_OF(ids)]);
+}
+
 /* A title's way through the shop, each call on what the last one left. */
 static void a_history(void)
 {
@@ -1005,6 +1121,9 @@ struct numbers {
     uint64_t before, kind, arguments[COUNTER_ARGUMENTS], used, after;
 };
 
+#define MOST_KEY "\xff\xff\xff\xff\xff\xff\xff\x7f"
+#define MOST "\xff\xff\xff\xff\xff\xff\xff\xff\xff\x01"
+
 static const struct request {
     const char *bytes;
     size_t length;
@@ -1017,6 +1136,9 @@ static const struct request {
     {"\x05\x01\x02\x03\x04\x05\x06", 7, 5, {1, 2, 3, 4, 5, 6}},
     {"\x06\x01\x09\x00", 4, 6, {1, 9, 0}},
     {"\x07\xe7\x07\x01\x02\x03\x04", 7, 7, {999, 1, 2, 3, 4}},
+    {"\x02\xe7\x07\xe7\x07\x03\x01\x0f\x0f" MOST_KEY MOST_KEY MOST, 35, 2,
+     {999, 999, 3, 1, 15, 15, KEY_LIMIT - 1, KEY_LIMIT - 1, TOP}},
+    {"\x05\xe7\x07" MOST MOST MOST MOST MOST, COUNTER_LONGEST_REQUEST, 5, {999, TOP, TOP, TOP, TOP, TOP}},
 };
 
 static void lend(const char *front, size_t length)
@@ -1085,7 +1207,7 @@ static void faulty_requests(void)
     } faulty[] = {
         {"\x80", 1, 1}, {"\x80\x00", 2, 2}, {"\x00", 1, 3}, {"\x08", 1, 3}, {"\x03\x00", 2, 4}, {"\x03\xe8\x07", 3, 4},
         {"\x03\x05\x00", 3, 5}, {"\x01\x01\x01", 3, 6}, {"\x01\x01\x04", 3, 6}, {"\x01\x01\x02\x02", 4, 6},
-        {"\xff\xff\xff\xff\xff\xff\xff\xff\xff\x02", 10, 2},
+        {"\x7f", 1, 3}, {"\x80\x01", 2, 3}, {MOST, 10, 3}, {"\x08\x80\x00", 3, 3}, {"\x83\x00\x01\x01", 4, 2},
     };
     const uint64_t past[] = {1000, 1, 2, 0, 1, 1, 5, 6, 0};
 
@@ -1102,6 +1224,114 @@ static void faulty_requests(void)
     writes(__LINE__, NULL, 1, past, 4);
     writes(__LINE__, NULL, 5, past, 5);
     writes(__LINE__, NULL, 1, written[2].arguments, 6);
+}
+
+/* The arguments of each kind: c content ID, j entry number, i CCI, t trigger, n rights or permits, k a key, x any number. */
+static const char *const schemas[] = {"", "citnnkk", "cjitnnkkx", "cj", "jx", "jxxxxx", "cjx", "jxxxx"};
+
+static uint64_t limit(char argument, uint64_t value)
+{
+    switch (argument) {
+    case 'c': return 1 <= value && value <= 999 ? 0 : 4;
+    case 'j': return 1 <= value && value <= 999 ? 0 : 5;
+    case 'i': return value <= 3 && value != 1 ? 0 : 6;
+    case 't': return value <= 1 ? 0 : 6;
+    case 'n': return value <= 15 ? 0 : 6;
+    case 'k': return value < KEY_LIMIT ? 0 : 6;
+    default: return 0;
+    }
+}
+
+/* A request whose bytes are put together number by number. */
+struct made {
+    struct request request;
+    char bytes[128];
+};
+
+static void add(struct made *m, const char *bytes, size_t length)
+{
+    memcpy(m->bytes + m->request.length, bytes, length);
+    m->request.length += length;
+}
+
+static void add_number(struct made *m, uint64_t value)
+{
+    for (; value >= 128; value /= 128)
+        m->bytes[m->request.length++] = (char)(value % 128 + 128);
+    m->bytes[m->request.length++] = (char)value;
+}
+
+/* The same with other arguments. The first limit that is passed is answered; a room that is too short comes after it. */
+static void with_arguments(const struct request *r, const uint64_t *arguments)
+{
+    struct made m = {{m.bytes, 0, r->kind, {0}}, {0}};
+    uint64_t answer = 0;
+
+    memcpy(m.request.arguments, arguments, sizeof m.request.arguments);
+    add_number(&m, r->kind);
+    for (size_t at = 0; schemas[r->kind][at] != 0; at++) {
+        add_number(&m, arguments[at]);
+        if (answer == 0)
+            answer = limit(schemas[r->kind][at], arguments[at]);
+    }
+    lend(m.bytes, m.request.length);
+    reads(__LINE__, &m.request, answer);
+    lend(m.bytes, m.request.length - 1);
+    writes(__LINE__, &m.request, r->kind, arguments, answer == 0 ? COUNTER_TOO_SHORT : answer);
+    lend(r->bytes, 0);
+    resize(&ledger, m.request.length);
+    settle();
+    writes(__LINE__, &m.request, r->kind, arguments, answer);
+}
+
+/* Each argument of each kind at and past its limits, alone and with all behind it past theirs. */
+static void limits_of_requests(void)
+{
+    static const uint64_t values[] = {0, 1, 2, 3, 4, 15, 16, 127, 128, 999, 1000, 16383, 16384, KEY_LIMIT - 1, KEY_LIMIT, TOP};
+
+    for (size_t k = 0; k < COUNT_OF(written); k++)
+        for (size_t at = 0; schemas[written[k].kind][at] != 0; at++)
+            for (size_t n = 0; n < COUNT_OF(values); n++) {
+                uint64_t arguments[COUNTER_ARGUMENTS];
+
+                memcpy(arguments, written[k].arguments, sizeof arguments);
+                arguments[at] = values[n];
+                with_arguments(&written[k], arguments);
+                for (size_t i = at + 1; schemas[written[k].kind][i] != 0; i++)
+                    arguments[i] = TOP;
+                with_arguments(&written[k], arguments);
+            }
+}
+
+/* Faulty forms of a number, in the place of the kind and of each argument, with and without bytes behind them. */
+static void faulty_numbers(void)
+{
+#define NINE "\xff\xff\xff\xff\xff\xff\xff\xff\xff"
+#define NINE_ZEROS "\x80\x80\x80\x80\x80\x80\x80\x80\x80"
+    static const struct { const char *bytes; size_t length; uint64_t answer; } faulty[] = {
+        {"\x80", 1, 1}, {NINE, 9, 1}, {NINE_ZEROS, 9, 1}, {"\x80\x00", 2, 2}, {"\x80\x80\x00", 3, 2}, {"\xff\x00", 2, 2},
+        {NINE "\x00", 10, 2}, {NINE "\x02", 10, 2}, {NINE "\x7f", 10, 2}, {NINE "\x80", 10, 2}, {NINE "\x81", 10, 2},
+        {NINE "\xff", 10, 2}, {NINE_ZEROS "\x00", 10, 2}, {NINE_ZEROS "\x02", 10, 2}, {NINE_ZEROS "\x81", 10, 2},
+    };
+
+    for (size_t k = 0; k < COUNT_OF(written); k++)
+        for (size_t at = 0; at <= strlen(schemas[written[k].kind]); at++)
+            for (size_t n = 0; n < COUNT_OF(faulty); n++) {
+                struct made m = {{m.bytes, 0, 0, {0}}, {0}};
+
+                if (at > 0)
+                    add_number(&m, written[k].kind);
+                for (size_t i = 0; i + 1 < at; i++)
+                    add_number(&m, written[k].arguments[i]);
+                add(&m, faulty[n].bytes, faulty[n].length);
+                lend(m.bytes, m.request.length);
+                reads(__LINE__, NULL, faulty[n].answer);
+                if (faulty[n].answer == 1)
+                    continue;
+                add(&m, "\x01\x00", 2);
+                lend(m.bytes, m.request.length);
+                reads(__LINE__, NULL, faulty[n].answer);
+            }
 }
 
 /* What the texts are, host/till/constants.sh compares. */
@@ -1127,19 +1357,25 @@ int main(void)
     all_heads();
     versions();
     row_counts();
+    places();
+    applications_and_triggers();
     formatting();
     kinds();
     states();
     facts_of_rows();
     zero_bytes_of_rows();
     reserved_bits();
+    neighbours();
     permits();
     rights();
     copies_beside();
     tallies();
+    tallies_of_kinds();
     a_history();
     requests();
     faulty_requests();
+    limits_of_requests();
+    faulty_numbers();
     texts();
     printf("till: %lu checks\n", checks);
     return 0;

@@ -1,62 +1,52 @@
-// Runs the cases of standard input, one a line, on the functions of the crates below, and prints each
-// line with ` -> ` and the answer. A line whose word is not known, or whose tokens do not fit, is answered `?`.
+// Runs the cases of standard input, one a line, on functions of the layers below that no C function hands on as they are,
+// and prints each line with ` ->` and what the function answers. A line that is no case is answered `?`.
 //
-// A line is a word and then tokens, with single spaces between. A token is hexadecimal with two digits a byte, `-` for no
-// bytes: a byte string, or a number in at most 8 bytes, the most significant first. The words and their tokens:
+// A case is spelled in the digits 0 to 9 and A to F, two a byte; all else in its line is for the reader, as the names of what
+// is answered. Its first byte says what is called, and the high digit of that byte how many numbers follow, of 8 bytes each
+// with the most significant first. The rest is a part of bytes, of any length: what a function reads, or is lent to write to.
 //
-//   number-len         value
-//   number-write       value, room
-//   number-read        bytes
-//   request-len        kind, nine arguments
-//   request-write      kind, nine arguments, room
-//   request-read       bytes
-//   title-write        CCI, key, content ID
-//   title-read         title half
-//   title-wipe         title half, f1
-//   half-write         byte 0, key, content ID
-//   rule-write         CCI, trigger, rights, permits, title key, STI key, C_HASH, content ID
-//   rule-read          rule half
-//   rule-wipe          rule half, f1, f2, f3, f4
-//   entry-kind         title half, rule half
-//   check-ledger       head, length of the table
-//   check-titles       head, length of the table
-//   check-rules        head, length of the table, the ledger's application number
-//   head-ledger        head
-//   head-rules         head
-//   row-state          row
-//   row-write-here     CCI, trigger, rights, permits, title key, STI key
-//   row-write-plain    state
-//   row-write-permits  permits
-//   format-ledger      R, application number, length of the ledger
-//   format-card        application number, lengths of the title table and of the rule table
-//   tally              title head, rule head, title half, rule half, content ID, first and last entry of the title half,
-//                      first and last entry of the rule half, lengths of the title table and of the rule table
-//   call               patches, R, application number, lengths of the ledger, the title table and the rule table,
-//                      kind, nine arguments
-//   serve              requests' bytes, R, application number, lengths of the ledger, the title table and the rule table
+//   01  a half: its fields, as a title half and as a rule half
+//   02  a row: its state, and its facts where it is here
+//   03  a number in groups of seven bits: 0, the number and its length, or what it is refused with
+//   04  a request: the bytes after it
+//   05  requests, served on a fresh ledger of 4 rows and a fresh card: the number that stopped, the count, four places for kinds and
+//       for answers (99 stood there), rows and entries 1 to 4
+//   06  a field
+//   11  the length of a number in groups
+//   12  a half: whether it has flag 1 and this content ID
+//   18  wipe a title half: f1
+//   19  wipe what both halves have in common: filler
+//   1A  write a row that is not here: state
+//   1B  write the permits of a row: permits
+//   1C  write a field: value
+//   1D  write a number in groups: value; 0 and its length, or what it is refused with
+//   21  a table, of which the part is the front, and zeros: application number, length; every head's tests and fields
+//   22  an entry: lengths of its title half, for which 16 bytes are there, and of its rule half behind them
+//   28  write a number in groups at a place: value, place; the place behind it
+//   38  write a title half: CCI, key, content ID
+//   39  write what both halves have in common: byte 0, key, content ID
+//   48  wipe a rule half: f1, f2, f3, f4
+//   68  write a row that is here: CCI, trigger, rights, permits, title key, STI key
+//   88  write a rule half: the same, C_HASH, content ID
 //
-// Arguments that a kind does not have are `-`. A table is its head and zeros, cut to its length. What is written goes over
-// bytes EE (half-write: FF). Entry numbers and R are taken modulo 1,000. A patch is four bytes: the table (0 ledger, 1
-// titles, 2 rules), a place in two bytes, and the byte that stands there after formatting. What call and serve change is
-// shown in runs, each with its table and place.
-mod cards;
-mod halves;
-mod heads;
-mod lines;
-mod numbers;
+// A writer's answer ends with its part afterwards, in brackets.
 mod print;
-mod request_cases;
-mod serving;
+mod readers;
+mod writers;
 
 ghost use mathlib.Core.Path.{_≡_};
 ghost use Prim.Native.Nat.{_≤_};
-ghost use lib.ListN.{length};
+ghost use lib.ListN.{length, replicate};
+ghost use Rattle.edges.specs.Cases.{digitOf, leaves};
+use crate::writers::Numbers;
+use formats::table;
 
-// Room for the cases.
-fn room() -> [u8; 524288]
-    ensures { λ r. ⌜ 524288 ≡ length r ⌝ }
+// Room for all lines.
+fn room() -> [u8; 262144]
+    ensures { λ r. ⌜ r ≡ replicate 262144 0 ⌝ }
+    ensures { λ r. ⌜ 262144 ≡ length r ⌝ }
 {
-    [0; 524288]
+    [0; 262144]
 }
 
 fn main() {
@@ -65,69 +55,73 @@ fn main() {
     cases(&text[..n]);
 }
 
-fn cases(text: &[u8])
-    requires { ⌜ length (now text) ≤ 524288 ⌝ }
+// The value of a digit, 16 of anything else.
+fn digit(x: u8) -> u8
+    ensures { λ r. ⌜ r ≡ digitOf x ⌝ }
 {
-    let mut at = 0;
-    while at < text.len() {
-        let end = lines::until(text, at, 10);
-        case(&text[at..end]);
-        at = end + 1;
+    if x < 48 {
+        return 16;
+    }
+    if x <= 57 {
+        return x - 48;
+    }
+    if x < 65 {
+        return 16;
+    }
+    if x <= 70 {
+        return x - 55;
+    }
+    16
+}
+
+// Each digit goes into the bytes of the case that its line spells; where the line ends, the case is answered. A case has room
+// for the longest table that is tried, 32,001 bytes, and for what stands before it.
+fn cases(text: &[u8]) {
+    let mut case = [0u8; 32100];
+    let mut digits: usize = 0;
+    let mut start: usize = 0;
+    let mut i: usize = 0;
+    while i < text.len() {
+        let x = text[i];
+        i += 1;
+        if x == b'\n' {
+            print::line(&text[start..i - 1]);
+            answer(case, digits / 2);
+            case = [0; 32100];
+            digits = 0;
+            start = i;
+        } else {
+            let value = digit(x);
+            let at = digits / 2;
+            if value < 16 {
+                if at < 32100 {
+                    case[at] = case[at] % 16 * 16 + value;
+                    digits += 1;
+                }
+            }
+        }
     }
 }
 
-fn case(line: &[u8]) {
-    io::write_all(1, line);
-    io::write_all(1, b" ->");
-    let mut first = [0u8; 512];
-    let n = lines::bytes(line, 1, &mut first);
-    if n <= 512 {
-        answer(line, &first[..n]);
-    } else {
+// Of a case that has n bytes.
+fn answer(case: [u8; 32100], n: usize)
+    requires { ⌜ n ≤ 32100 ⌝ }
+{
+    let code = table::byte(&case, 0);
+    let start = 1 + 8 * (code / 16) as usize;
+    if n < start {
         print::unknown();
+    } else {
+        let v = writers::numbers_of(&case);
+        let mut part = case;
+        run(code, v, &case, &mut part[start..n]);
     }
-    io::write_all(1, b"\n");
+    print::end();
 }
 
-// Each word with the counts of its byte strings and of its numbers, one hexadecimal digit each, and below, by its place in
-// that list, what it calls. `s` is token 1.
-fn answer(line: &[u8], s: &[u8]) {
-    match lines::find(
-        line,
-        b"number-len 01 number-write 02 number-read 10 request-len 0a request-write 0b request-read 10 \
-          title-write 03 title-read 10 title-wipe 11 half-write 03 rule-write 08 rule-read 10 rule-wipe 14 entry-kind 20 \
-          check-ledger 11 check-titles 11 check-rules 12 head-ledger 10 head-rules 10 \
-          row-state 10 row-write-here 06 row-write-plain 01 row-write-permits 01 \
-          format-ledger 03 format-card 03 tally 47 call 1f serve 15",
-    ) {
-        0 => numbers::len(line),
-        1 => numbers::write(line),
-        2 => numbers::read(s),
-        3 => request_cases::len(line),
-        4 => request_cases::write(line),
-        5 => request_cases::read(s),
-        6 => halves::title_write(line),
-        7 => halves::title_read(s),
-        8 => halves::title_wipe(line),
-        9 => halves::half_write(line),
-        10 => halves::rule_write(line),
-        11 => halves::rule_read(s),
-        12 => halves::rule_wipe(line),
-        13 => halves::entry_kind(s, line),
-        14 => heads::check(heads::LEDGER, line),
-        15 => heads::check(heads::TITLES, line),
-        16 => heads::check(heads::RULES, line),
-        17 => heads::ledger_fields(s),
-        18 => heads::rules_fields(s),
-        19 => heads::state(s),
-        20 => heads::write(heads::HERE, line),
-        21 => heads::write(heads::PLAIN, line),
-        22 => heads::write(heads::PERMITS, line),
-        23 => cards::format_ledger(line),
-        24 => cards::format_card(line),
-        25 => cards::copies(line),
-        26 => serving::call(line, s),
-        27 => serving::stream(line, s),
-        _ => print::unknown(),
-    }
+fn run(code: u8, v: Numbers, case: &[u8], part: &mut [u8])
+    ensures { λ _. ⌜ now (part .exit) ≡ leaves code v (now (part .entry)) ⌝ }
+{
+    writers::write(code, v, &mut *part);
+    readers::show(code, v, case, &*part);
 }

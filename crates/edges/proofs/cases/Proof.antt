@@ -1,47 +1,18 @@
--- `edges::cases` is safe and ends. The place is at most one past the text.
+-- `edges::cases` is safe and ends. A line starts at or before the place that is read, and its digits fit in the bytes of a case.
 -- Assumes nothing.
-use Prim.Native.Nat.{_≤_, _-_, _+_}
-use lib.ListN.{length}
+use mathlib.Core.Path.{_≡_}
+use Prim.Native.Nat.{ℕ, _≤_, _-_, _*_}
+use lib.ListN.{length, length-replicate}
 use native.Mathlib.Omega.{arith}
 use borrow.Author.Needs.{needs}
 use Rattle.edges.proofs.cases.Statement.{statement}
 use Rattle.edges.proofs.cases.Tie as tie
 
 abbrev Inv-loop : tie.InvT-loop
-Inv-loop text at₀ at = at ≤ length text + 1
+Inv-loop text case₀ digits₀ start₀ i₀ case digits start i = (start ≤ i) × (i ≤ length text) × (digits ≤ 64200) × (length case ≡ 32100)
 
 abbrev μ-loop : tie.MeasureT-loop
-μ-loop text at₀ at = length text - at
-
-loop-holds : tie.Need-loop-holds Inv-loop μ-loop
-loop-holds c = search needs
-
-until-requires : tie.Need-until-requires Inv-loop μ-loop
-until-requires c κs = search needs
-
-sub-case : tie.Need-sub-case Inv-loop μ-loop
-sub-case c = omega (arith, c .until .ensures .0 (omega arith))
-
-part-case-start : tie.Need-part-case-start Inv-loop μ-loop
-part-case-start c = omega (arith, c .until .ensures .0 (omega arith))
-
-part-case-end : tie.Need-part-case-end Inv-loop μ-loop
-part-case-end c = omega arith
-
-case-requires : tie.Need-case-requires Inv-loop μ-loop
-case-requires c κs = search needs
-
-add-at : tie.Need-add-at Inv-loop μ-loop
-add-at c = omega arith
-
-loop-less : tie.Need-loop-less Inv-loop μ-loop
-loop-less c = omega (arith, c .before .before .until .ensures .0 (omega arith))
-
-loop-again : tie.Need-loop-again Inv-loop μ-loop
-loop-again c = search needs
-
-returns : tie.Need-returns Inv-loop μ-loop
-returns c = search needs
+μ-loop text case₀ digits₀ start₀ i₀ case digits start i = length text - i
 
 pub cases-spec : {M : Type 1} → statement M
 cases-spec =
@@ -49,13 +20,27 @@ cases-spec =
     (tie.spec
     Inv-loop
     μ-loop
-    loop-holds
-    until-requires
-    sub-case
-    part-case-start
-    part-case-end
-    case-requires
-    add-at
-    loop-less
-    loop-again
-    returns)
+    (λ c. (omega arith, omega arith, omega arith, length-replicate {A = ℕ} 32100 0))
+    (λ c. omega arith)
+    (λ c. omega arith)
+    (λ c. omega arith)
+    (λ c. omega arith)
+    (λ c. omega arith)
+    (λ c. omega arith)
+    (λ c κs. search needs)
+    (λ c κs. omega arith)
+    (λ c. omega arith)
+    (λ c. (omega arith, omega arith, omega arith, length-replicate {A = ℕ} 32100 0))
+    (λ c κs. search needs)
+    (λ c. omega arith)
+    (λ c. omega arith)
+    (λ c. omega arith)
+    (λ c. omega arith)
+    (λ c. omega arith)
+    (λ c. omega arith)
+    (λ c. search needs)
+    (λ c. omega arith)
+    (λ c. search needs)
+    (λ c. omega arith)
+    (λ c. search needs)
+    (λ c. search needs))
