@@ -1,10 +1,11 @@
 -- Counting the entries of which a test holds, from the first on, and when an entry is a copy of a title.
 -- Assumes nothing.
-use Prim.Native.Nat.{ℕ, suc, _+_, _-_, _≤_, _<_}
+use Prim.Native.Nat.{ℕ, zero, suc, _+_, _-_, _≤_, _<_}
 use mathlib.Core.Path.{_≡_, refl, sym, ap, _∙_}
 use mathlib.Core.List.{List}
 use mathlib.Core.Bool.{Bool, true, false, not, cond, true≢false}
 use native.Mathlib.Omega.{arith}
+use native.Mathlib.Nat.{zero-add, suc-add}
 use lib.Dec.{eqb}
 use borrow.Author.Tests.{ne-eqb, eq-eqb, eqb-true, le-leb}
 use Rattle.formats.specs.Half.{idOf, usableOf, usableId, flaggedWith}
@@ -16,7 +17,12 @@ use Rattle.formats.proofs.Tests.{split, both, refuted}
 use Rattle.formats.proofs.half.Laws.{some-id}
 use Rattle.formats.proofs.entry.Laws.{IsCopy, of-copy, copy-beside}
 use Rattle.calls.specs.Buffers.{isCopy, copyOf, one, total}
-use Rattle.calls.proofs.History.Totals.{total-at}
+
+-- a sum over more is no less
+total-grows : (m k : ℕ) (w : ℕ → ℕ) → total k w ≤ total (m + k) w
+unfolding total
+total-grows zero k w = rw (zero-add k) (omega arith)
+total-grows (suc m) k w = rw (suc-add m k) (omega (arith, total-grows m k w))
 
 -- n of the entries before j pass
 pub record Counted (p : ℕ → Bool) (j n : ℕ) : Type 0 where
@@ -57,12 +63,12 @@ module _ {p : ℕ → Bool} {j n : ℕ} (r : Counted p j n) where
       let x : j - 1 ≡ 999 = omega arith in
       r .is ∙ ap (λ (k : ℕ). total k (λ i. one (p i))) x
 
-  -- entry j passes, so the count is not 0
-  pub found : j < 1000 → true ≡ p j → true ≡ not (eqb (total 999 (λ i. one (p i))) 0)
-  found h e =
-      let here : one (p j) ≤ total 999 (λ i. one (p i)) = total-at 999 (λ i. one (p i)) j (record { from = r .from; to = omega arith }) in
-      let some : one (p j) ≡ 1 = ap one (sym e) in
-      sym (ap not (ne-eqb (total 999 (λ i. one (p i))) 0 (λ z. omega arith)))
+  -- some were counted, so the whole count is not 0
+  pub found : (n ≡ 0 → ⊥) → true ≡ not (eqb (total 999 (λ i. one (p i))) 0)
+  found some =
+      let e : (1000 - j) + (j - 1) ≡ 999 = omega (arith, r .from, r .to) in
+      let grows : total (j - 1) (λ i. one (p i)) ≤ total 999 (λ i. one (p i)) = rw e at (total-grows (1000 - j) (j - 1) (λ i. one (p i))) in
+      sym (ap not (ne-eqb (total 999 (λ i. one (p i))) 0 (λ z. some (omega (arith, r .is)))))
 
 -- none was counted up to the last, so the count is 0
 pub none-found : {p : ℕ → Bool} {j : ℕ} → Counted p j 0 → 1000 ≤ j → false ≡ not (eqb (total 999 (λ i. one (p i))) 0)

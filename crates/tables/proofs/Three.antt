@@ -1,18 +1,16 @@
 -- Three entries looked at together: by flag and ID, and by what they are.
 -- Assumes nothing.
-use Prim.Native.Nat.{ℕ, _+_, _≤_}
+use Prim.Native.Nat.{ℕ, _+_, _*_, _≤_, _<_}
 use mathlib.Core.Path.{_≡_, refl, sym}
 use mathlib.Core.List.{List}
 use mathlib.Core.Bool.{Bool, true, false, not, _||_, true≢false}
-use mathlib.Core.Logic.{⊎-elim}
 use native.Mathlib.Omega.{arith}
 use lib.Dec.{eqb}
 use lib.ListN.{length}
 use Rattle.formats.specs.Half.{flaggedWith}
-use Rattle.calls.specs.Buffers.{titleAt, ruleAt, one, total}
-use Rattle.formats.proofs.Tests.{either}
-use Rattle.tables.specs.Copies.{copyAt, mayHold, inThree, anyOfThree}
-use Rattle.tables.proofs.Counting.{Counted, three, three-over, turned, moved, found, not-held}
+use Rattle.calls.specs.Buffers.{titleAt, ruleAt, one}
+use Rattle.tables.specs.Copies.{copyAt, mayHold, inThree}
+use Rattle.tables.proofs.Counting.{Counted, three, three-over, moved, not-held}
 
 -- neither part of an alternative that fails holds
 neither : (a b : Bool) → false ≡ (a || b) → (false ≡ a) × (false ≡ b)
@@ -41,33 +39,13 @@ module _ (c : ℕ) (titles rules : List ℕ) (j : ℕ) where
   unfolding inThree
   at-most-three = omega (arith, few (copyAt c titles rules j), few (copyAt c titles rules (j + 1)), few (copyAt c titles rules (j + 2)))
 
-  module _ {n : ℕ} (r : Counted (copyAt c titles rules) j n) (within : j ≤ 997) where
-    -- they are passed over, or counted
-    pub passed : false ≡ mayHold c titles j → Counted (copyAt c titles rules) (j + 3) n
-    passed e = let (first, (second, third)) = none-held e in three-over r within first second third
+-- a turn of a loop over the threes: the three from entry 3k + 1 on are counted, or they hold none
+module _ (c : ℕ) (titles rules : List ℕ) {k n m : ℕ} (r : Counted (copyAt c titles rules) (3 * k + 1) n) (within : k < 333) where
+  pub all-three : m ≡ n + inThree c titles rules (3 * k + 1) → Counted (copyAt c titles rules) (3 * (k + 1) + 1) m
+  unfolding inThree
+  all-three e = moved (three r (omega arith)) (omega arith) (sym e)
 
-    pub added : Counted (copyAt c titles rules) (j + 3) (n + inThree c titles rules j)
-    unfolding inThree
-    added = three r within
-
-    -- a copy among them shows that there are copies
-    pub found-one : true ≡ anyOfThree c titles rules j → true ≡ not (eqb (total 999 (λ i. one (copyAt c titles rules i))) 0)
-    unfolding anyOfThree
-    found-one e =
-        let e2 : j + 1 + 1 ≡ j + 2 = omega arith in
-        ⊎-elim
-        (λ first. found r (omega arith) (sym first))
-        (λ rest.
-        ⊎-elim
-        (λ second. found (turned r (omega arith)) (omega arith) (sym second))
-        (λ third. found (moved (turned (turned r (omega arith)) (omega arith)) e2 refl) (omega arith) (sym third))
-        (either (copyAt c titles rules (j + 1)) (copyAt c titles rules (j + 2)) rest))
-        (either (copyAt c titles rules j) (copyAt c titles rules (j + 1) || copyAt c titles rules (j + 2)) (sym e))
-
-    -- and where none of them is one they are passed over
-    pub none-there : false ≡ anyOfThree c titles rules j → Counted (copyAt c titles rules) (j + 3) n
-    unfolding anyOfThree
-    none-there e =
-        let (first, rest) = neither (copyAt c titles rules j) (copyAt c titles rules (j + 1) || copyAt c titles rules (j + 2)) e in
-        let (second, third) = neither (copyAt c titles rules (j + 1)) (copyAt c titles rules (j + 2)) rest in
-        three-over r within first second third
+  pub none-of-three : false ≡ mayHold c titles (3 * k + 1) → m ≡ n → Counted (copyAt c titles rules) (3 * (k + 1) + 1) m
+  none-of-three held e =
+      let (first, (second, third)) = none-held c titles rules (3 * k + 1) held in
+      moved (three-over r (omega arith) first second third) (omega arith) (sym e)

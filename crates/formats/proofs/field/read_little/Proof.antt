@@ -10,7 +10,8 @@ use Rattle.formats.proofs.field.read_little.Tie as tie
 
 returns : tie.Need-returns
 returns c =
-    let start = c .before .before .before .before .before .before .before .before .before .before in
+    let fifth = c .before .before .before .before .before in
+    let start = fifth .before .before .before .before .before in
     c .of-eight .ensures ∙ ap little (sym (part-cells 8 0 (now (start .args .s)) (start .pre)))
 
 pub read-little-spec : {M : Type 1} → statement M

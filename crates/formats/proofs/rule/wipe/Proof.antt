@@ -21,12 +21,14 @@ returns c = sym (replaced-not _ _ _ (c .if1 .taken))
 returns-2 : tie.Need-returns-2
 unfolding wipedRule
 returns-2 c =
-    let first = c .before .before .before .before .before .before .before .before .before .before in
+    let at-f4 = c .before .before in
+    let at-f3 = at-f4 .before .before .before .before in
+    let first = at-f3 .before .before .before .before in
     let a = first .before .before .before .before .args in
     let rule = a .rule .now in
     let fillers = a .fillers in
-    let third = wrote-field 8 (fillers .f3) (wrote-start 16 (first .wipe .last .0) (omega arith)) (omega arith) (c .before .before .before .before .before .before .write .ensures) in
-    wrote-field 8 (fillers .f4) third (omega arith) (c .before .before .write2 .ensures) .is
+    let third = wrote-field 8 (fillers .f3) (wrote-start 16 (first .wipe .last .0) (omega arith)) (omega arith) (at-f3 .write .ensures) in
+    wrote-field 8 (fillers .f4) third (omega arith) (at-f4 .write2 .ensures) .is
     ∙ ap (λ (w : List ℕ). put w 16 (bytesOf 8 (fillers .f3) ++ bytesOf 8 (fillers .f4))) (first .wipe .ensures ∙ changed-half (wiped rule (fillers .f2)) rule (omega arith))
     ∙ sym (replaced-whole 32 (wipedRule rule fillers) rule (omega arith))
 

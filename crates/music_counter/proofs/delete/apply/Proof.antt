@@ -14,7 +14,8 @@ use Rattle.music_counter.proofs.delete.apply.Tie as tie
 abbrev at-start : tie.Then1 → tie.Start
 at-start k =
     let at-kind = k .before .before .before .before .before .before in
-    at-kind .before .before .before .before .before .before .before .before
+    let at-content = at-kind .before .before .before in
+    at-content .before .before .before .before .before
 
 is-full : (k : tie.Then1) → isFull (kindAt (lent (at-start k .args .ledger) (at-start k .args .titles) (at-start k .args .rules)) (at-start k .args .entry .0)) ≡ true
 is-full k =
@@ -24,7 +25,8 @@ is-full k =
 
 set-plain-requires : tie.Need-set-plain-requires
 set-plain-requires c κs =
-    let at-content = c .before .before .before .before .before .before .before .before .before .before in
+    let at-kind = c .before .before .before .before .before .before .before in
+    let at-content = at-kind .before .before .before in
     rw (at-content .content .ensures) (slot-named 24 _ _ (at-start (c .before) .pre .row) (is-full (c .before)))
 
 wipe-rule-requires : tie.Need-wipe-rule-requires
@@ -48,7 +50,8 @@ returns-2 c =
     let at-is-full = c .before in
     let at-wipe-title = at-is-full .before .before .before in
     let at-kind = at-wipe-title .before .before in
-    let at-start = at-kind .before .before .before .before .before .before .before .before in
+    let at-content = at-kind .before .before .before in
+    let at-start = at-content .before .before .before .before .before in
     let a = at-start .args in
     deleted-copy (a .ledger .now) (a .titles .now) (a .rules .now) (a .entry) (a .fillers) (sym (at-is-full .is-full .ensures ∙ ap isFull (same-kind (at-kind .kind .ensures))) ∙ c .if1 .left) (at-wipe-title .wipe-title .ensures)
 

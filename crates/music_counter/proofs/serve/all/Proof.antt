@@ -47,14 +47,17 @@ abbrev at-kind : tie.After-slice-known10 Inv-loop μ-loop → tie.After-kind Inv
 at-kind k = k .before .before .before .before .before .before .before
 
 abbrev at-perform : tie.After-kind Inv-loop μ-loop → tie.After-perform Inv-loop μ-loop
-at-perform k = k .before .before .before .before .before .before .before .before
+at-perform k =
+    let titles = k .before .before .before .before in
+    titles .before .before .before .before
 
 add-count : tie.Need-add-count Inv-loop μ-loop
 add-count c =
     let found = at-found (at-perform (at-kind c)) in
     let read = found .before .before in
     let h = room (read .before .before .loop .inv) (read .read .ensures) (found .found .given .1) in
-    let begun = read .before .before .before .before .before .before .before .before .before in
+    let entered = read .before .before in
+    let begun = entered .before .before .before .before .before .before .before in
     omega (arith, h, begun .good)
 
 loop-less : tie.Need-loop-less Inv-loop μ-loop

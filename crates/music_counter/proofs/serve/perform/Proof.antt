@@ -7,32 +7,46 @@ use Rattle.music_counter.proofs.serve.perform.Tie as tie
 
 returns : tie.Need-returns
 returns c =
-    let a = c .before .before .before .before .before .before .before .before .before .before .args in
-    for-request _ (c .before .before .before .before .before .request .given .1) (c .before .before .register .ensures (a .titles .now) (a .rules .now))
+    let at-call = c .before .before in
+    let at-match = at-call .before .before .before in
+    let a = at-match .before .before .before .before .before .args in
+    for-request _ (at-match .request .given .1) (at-call .register .ensures (a .titles .now) (a .rules .now))
 
 returns-2 : tie.Need-returns-2
 returns-2 c =
-    for-request _ (c .before .before .before .before .before .before .before .before .before .before .before .request2 .given .1) (c .before .before .before .before .before .before .«record» .ensures)
+    let at-call = c .before .before .before .before .before .before in
+    let at-match = at-call .before .before .before .before .before in
+    for-request _ (at-match .request2 .given .1) (at-call .«record» .ensures)
 
 returns-3 : tie.Need-returns-3
 returns-3 c =
-    for-request _ (c .before .before .before .before .before .before .before .before .before .request3 .given .1) (c .before .before .before .before .check-out .ensures)
+    let at-call = c .before .before .before .before in
+    let at-match = at-call .before .before .before .before .before in
+    for-request _ (at-match .request3 .given .1) (at-call .check-out .ensures)
 
 returns-4 : tie.Need-returns-4
 returns-4 c =
-    for-request _ (c .before .before .before .before .before .before .before .before .before .request4 .given .1) (c .before .before .before .before .check-in .ensures)
+    let at-call = c .before .before .before .before in
+    let at-match = at-call .before .before .before .before .before in
+    for-request _ (at-match .request4 .given .1) (at-call .check-in .ensures)
 
 returns-5 : tie.Need-returns-5
 returns-5 c =
-    for-request _ (c .before .before .before .before .before .before .before .before .before .before .before .request5 .given .1) (c .before .before .before .before .before .before .move-out .ensures)
+    let at-call = c .before .before .before .before .before .before in
+    let at-match = at-call .before .before .before .before .before in
+    for-request _ (at-match .request5 .given .1) (at-call .move-out .ensures)
 
 returns-6 : tie.Need-returns-6
 returns-6 c =
-    for-request _ (c .before .before .before .before .before .before .before .before .before .before .before .request6 .given .1) (c .before .before .before .before .before .before .move-in .ensures)
+    let at-call = c .before .before .before .before .before .before in
+    let at-match = at-call .before .before .before .before .before in
+    for-request _ (at-match .request6 .given .1) (at-call .move-in .ensures)
 
 returns-7 : tie.Need-returns-7
 returns-7 c =
-    for-request _ (c .before .before .before .before .before .before .before .before .before .before .before .request7 .given .1) (c .before .before .before .before .before .before .delete .ensures)
+    let at-call = c .before .before .before .before .before .before in
+    let at-match = at-call .before .before .before .before .before in
+    for-request _ (at-match .request7 .given .1) (at-call .delete .ensures)
 
 pub perform-spec : {M : Type 1} → statement M
 perform-spec =

@@ -57,17 +57,20 @@ returns-2 c =
 
 mul-values : tie.Need-mul-values Inv-loop μ-loop
 mul-values c =
-    let turn = c .before .before .before .before .before .before .before .before in
+    let limit = c .before .before in
+    let turn = limit .before .before .before .before .before .before in
     omega (arith, within (turn .before .loop .inv .left-is) (turn .loop-test .taken) (schema-size _))
 
 array-write-values : tie.Need-array-write-values Inv-loop μ-loop
 array-write-values c =
-    let turn = c .before .before .before .before .before .before .before .before in
+    let limit = c .before .before in
+    let turn = limit .before .before .before .before .before .before in
     within (turn .before .loop .inv .left-is) (turn .loop-test .taken) (schema-size _)
 
 add-count : tie.Need-add-count Inv-loop μ-loop
 add-count c =
-    let turn = c .before .before .before .before .before .before .before .before in
+    let limit = c .before .before in
+    let turn = limit .before .before .before .before .before .before in
     omega (arith, within (turn .before .loop .inv .left-is) (turn .loop-test .taken) (schema-size _))
 
 add-used : tie.Need-add-used Inv-loop μ-loop

@@ -20,8 +20,9 @@ abbrev μ-loop : tie.MeasureT-loop
 loop-holds : tie.Need-loop-holds Inv-loop μ-loop
 loop-holds c =
     let write = c .before .before .write-at in
-    let numbers = c .before .before .before .before .before .before .numbers-of in
-    let first = c .before .before .before .before .before .before .before .before in
+    let at-numbers = c .before .before .before .before .before .before in
+    let numbers = at-numbers .numbers-of in
+    let first = at-numbers .before .before in
     let kind = numbers .result .kind in
     record {
       left-is = start (schema kind) (c .before .before .before .before .packed-schema .ensures);
@@ -55,9 +56,11 @@ same-length c = c .before .loop .inv .storing .size ∙ c .before .before .befor
 
 returns : tie.Need-returns Inv-loop μ-loop
 returns c =
-    let write = c .before .before .before .before .write-at in
-    let numbers = c .before .before .before .before .before .before .before .before .numbers-of in
-    let first = c .before .before .before .before .before .before .before .before .before .before in
+    let at-write = c .before .before .before .before in
+    let write = at-write .write-at in
+    let at-numbers = at-write .before .before .before .before in
+    let numbers = at-numbers .numbers-of in
+    let first = at-numbers .before .before in
     let out = now (first .args .out) in
     let kind = put-kind out (numbers .ensures) (first .pre) (write .ensures) in
     put-written out (numbers .ensures) (first .pre) (kind .0) (kind .1) (put-done (c .before .loop .inv) (c .loop-test .left))

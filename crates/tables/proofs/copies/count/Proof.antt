@@ -1,13 +1,13 @@
--- `tables::copies::count` meets its contract: the loop counts the copies among the entries before the next three.
+-- `tables::copies::count` meets its contract: the copies before the next three are counted.
 -- Assumes nothing.
 use Prim.Native.Nat.{ℕ, _+_, _-_, _*_}
-use mathlib.Core.Path.{_≡_, sym, ap, _∙_}
+use mathlib.Core.Path.{sym, ap, _∙_}
 use mathlib.Core.Logic.{⊎-elim}
 use native.Mathlib.Omega.{arith}
 use Rattle.calls.specs.Buffers.{copies}
 use Rattle.tables.specs.Copies.{copyAt}
-use Rattle.tables.proofs.Counting.{Counted, start, done, moved}
-use Rattle.tables.proofs.Three.{at-most-three, passed, added}
+use Rattle.tables.proofs.Counting.{Counted, start, done}
+use Rattle.tables.proofs.Three.{at-most-three, all-three, none-of-three}
 use Rattle.tables.proofs.copies.count.Statement.{statement}
 use Rattle.tables.proofs.copies.count.Tie as tie
 
@@ -17,47 +17,21 @@ Inv-loop titles rules content n₀ k₀ n k = Counted (copyAt (content .0) title
 abbrev μ-loop : tie.MeasureT-loop
 μ-loop titles rules content n₀ k₀ n k = 333 - k
 
-loop-holds : tie.Need-loop-holds Inv-loop μ-loop
-loop-holds c = start _
-
-mul-j : tie.Need-mul-j Inv-loop μ-loop
-mul-j c = omega arith
-
-add-j : tie.Need-add-j Inv-loop μ-loop
-add-j c = omega arith
-
-may-hold-requires : tie.Need-may-hold-requires Inv-loop μ-loop
-may-hold-requires c κs = omega arith
-
-in-three-requires : tie.Need-in-three-requires Inv-loop μ-loop
-in-three-requires c κs = omega arith
-
 add-n : tie.Need-add-n Inv-loop μ-loop
 add-n c =
     let l = c .before .before .before .before in
     let a = l .before .before .before .args in
-    omega (
-      arith,
-      c .in-three .ensures,
-      at-most-three (a .content .0) (a .titles .now) (a .rules .now) (3 * l .loop .k + 1),
-      l .loop .inv .few,
-      l .loop .inv .to,
-    )
-
-add-k : tie.Need-add-k Inv-loop μ-loop
-add-k c = omega arith
-
-loop-less : tie.Need-loop-less Inv-loop μ-loop
-loop-less c = omega arith
+    let few = at-most-three (a .content .0) (a .titles .now) (a .rules .now) (3 * l .loop .k + 1) in
+    omega (arith, c .in-three .ensures, few, l .loop .inv .few, l .loop .inv .to)
 
 loop-again : tie.Need-loop-again Inv-loop μ-loop
 loop-again c =
-    let l = c .before .before .before in
-    let within = c .before .before .loop-test .taken in
-    let next : 3 * l .loop .k + 1 + 3 ≡ 3 * (l .loop .k + 1) + 1 = omega arith in
+    let at-test = c .before .before in
+    let l = at-test .before .loop in
+    let within = at-test .loop-test .taken in
     ⊎-elim
-    (λ w. moved (added _ _ _ _ (l .loop .inv) (omega arith)) next (sym (w .2 ∙ ap (λ (m : ℕ). l .loop .n + m) (w .1 .ensures))))
-    (λ w. moved (passed _ _ _ _ (l .loop .inv) (omega arith) (sym (w .0 .left) ∙ c .before .may-hold .ensures)) next (sym (w .1)))
+    (λ w. all-three _ _ _ (l .inv) within (w .2 ∙ ap (λ (m : ℕ). l .n + m) (w .1 .ensures)))
+    (λ w. none-of-three _ _ _ (l .inv) within (sym (w .0 .left) ∙ c .before .may-hold .ensures) (w .1))
     (c .if1 .came)
 
 returns : tie.Need-returns Inv-loop μ-loop
@@ -67,16 +41,5 @@ returns c = done (c .before .loop .inv) (omega arith)
 pub count-spec : {M : Type 1} → statement M
 count-spec =
     tie.close
-    (tie.spec
-    Inv-loop
-    μ-loop
-    loop-holds
-    mul-j
-    add-j
-    may-hold-requires
-    in-three-requires
-    add-n
-    add-k
-    loop-less
-    loop-again
-    returns)
+    (tie.spec Inv-loop μ-loop (λ c. start _) (λ c. omega arith) (λ c. omega arith) (λ c κs. omega arith) (λ c κs. omega arith)
+    add-n (λ c. omega arith) (λ c. omega arith) loop-again returns)

@@ -25,10 +25,13 @@ returns-2 c =
 returns-3 : tie.Need-returns-3
 unfolding cardFormatting formattedTitles formattedRules freshTitles freshRules
 returns-3 c =
-    let titles = c .before .before .before .before .before .before .before .before .before .if1 .left in
-    let rules = c .before .before .before .before .before .before .before .before .if2 .left in
+    let at-rules = c .before .before in
+    let at-titles = at-rules .before .before .before .before in
+    let at-lengths = at-titles .before .before in
+    let titles = at-lengths .before .if1 .left in
+    let rules = at-lengths .if2 .left in
     let e = holds 8 _ _ (eq-eqb _ _ titles) (holds 9 _ _ (eq-eqb _ _ rules) end) in
-    (e, (rw titles at (c .before .before .before .before .before .before .fresh-table .ensures) ∙ changed _ _ e refl, rw rules at (c .before .before .fresh-table2 .ensures) ∙ changed _ _ e refl))
+    (e, (rw titles at (at-titles .fresh-table .ensures) ∙ changed _ _ e refl, rw rules at (at-rules .fresh-table2 .ensures) ∙ changed _ _ e refl))
 
 pub format-card-spec : {M : Type 1} → statement M
 format-card-spec =
