@@ -1,14 +1,16 @@
-# make demo: the counter on document 01's example. make test: every test, and the proofs last.
+# make demo: the counter on document 01's example. make test: the proofs, and every test.
 # make bench: the library against plain C. make plot: a picture of what it measured.
-.PHONY: demo test expected till constants compare soak programs requests references history bench plot
+.PHONY: demo test host-tests expected till constants compare soak programs requests references history bench plot
 .PHONY: target/staticlib/libtill.a target/bin/counter
 
 demo: target/bin/counter
 	@$< < crates/counter/stdin
 
-test: expected till constants compare requests references programs
-	rt fmt --check
-	rt ci
+test:
+	@host/test.sh
+
+# What is tested outside Rattle, on the library and the program that are proved.
+host-tests: expected till constants compare requests references programs
 
 # The cases that the test program reads and what it must print, worked out from the paper by a program of its own.
 expected: target/host/edges
@@ -85,8 +87,7 @@ references:
 
 # Proving and building takes a few minutes, once.
 target/bin/counter:
-	@mkdir -p target
-	@rt check counter > target/counter.log || { tail -20 target/counter.log; exit 1; }
+	@host/counter/build.sh
 
 # How fast the library is beside the same operations in plain C. The library is for any x86-64, and so is the plain C.
 bench: target/bench/bench

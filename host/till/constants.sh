@@ -85,8 +85,8 @@ longest_request() {
 sizes="TITLES_SIZE $(number 'tablePasses 0x4131 ([0-9]+) ' crates/formats/specs/Head.antt)
 RULES_SIZE $(number 'rulesPass r = tablePasses 0x4D31 ([0-9]+) ' crates/formats/specs/Head.antt)
 LEDGER_SIZE $(number 'eqb \(length l\) \(([0-9]+) \* \(rowsOf l \+ 1\)\)' crates/formats/specs/Head.antt) * (rows + 1)
-MOST_ROWS $(number 'leb \(rowsOf l\) ([0-9]+) ' crates/formats/specs/Head.antt)
-LAST_ENTRY $(number '^limit Entry v = unless \(leb 1 v \&\& leb v ([0-9]+)\)' crates/requests/specs/Request.antt)
+MOST_ROWS $(number '^numbered v = leb 1 v \&\& leb v ([0-9]+)' crates/formats/specs/Facts.antt)
+LAST_ENTRY $(number 'eqb \(number \(part t 10 2\)\) ([0-9]+) ' crates/formats/specs/Head.antt)
 UNLIMITED $(number '^pub const UNLIMITED: u64 = ([0-9]+);' crates/calls/src/count.rt)
 ARGUMENTS $(number ' arguments: &mut \[u64; ([0-9]+)\]' crates/till/src/lib.rt)
 LONGEST_REQUEST $(longest_request)"
