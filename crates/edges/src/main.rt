@@ -9,8 +9,8 @@
 //   02  a row: its state, and its facts where it is here
 //   03  a number in groups of seven bits: 0, the number and its length, or what it is refused with
 //   04  a request: the bytes after it
-//   05  requests, served on a fresh ledger of 4 rows and a fresh card: the number that stopped, the count, four places for kinds and
-//       for answers (99 stood there), rows and entries 1 to 4
+//   05  requests, served on a fresh ledger of 4 rows and a fresh card: the number that stopped, the count, four places for
+//       kinds and four for answers (99 stood there), rows and entries 1 to 4
 //   06  a field
 //   11  the length of a number in groups
 //   12  a half: whether it has flag 1 and this content ID

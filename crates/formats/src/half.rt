@@ -99,7 +99,8 @@ pub fn is_flagged(half: &[u8], content: ContentId) -> bool
 // Writes the first 16 bytes of a half: `first`, the key, flag 1, the content ID, and 0 in every reserved bit. Bytes 0 to 7 are
 // one field, and so are 8 to 15, with the flag at its top and the content ID at its bottom.
 pub fn write(half: &mut [u8], first: u8, key: u64, content: ContentId)
-    ensures { λ _. ⌜ now (half .exit) ≡ changedHalf (put (now (half .entry)) 0 (halfBytes first key (content .0))) (now (half .entry)) ⌝ }
+    ensures { λ _. ⌜ now (half .exit)
+        ≡ changedHalf (put (now (half .entry)) 0 (halfBytes first key (content .0))) (now (half .entry)) ⌝ }
 {
     if half.len() < 16 {
         return;

@@ -70,7 +70,8 @@ pub fn state(row: &[u8]) -> RowState
 
 // Bytes 0 to 7 of a row that is here, as one field.
 fn here(facts: Facts) -> u64
-    ensures { λ r. ⌜ r ≡ 2 ^ 56 + facts .cci % 256 * 2 ^ 48 + facts .trigger % 256 * 2 ^ 40 + facts .rights % 256 * 2 ^ 32 + facts .permits % 256 * 2 ^ 24 ⌝ }
+    ensures { λ r. ⌜ r ≡ 2 ^ 56 + facts .cci % 256 * 2 ^ 48 + facts .trigger % 256 * 2 ^ 40
+        + facts .rights % 256 * 2 ^ 32 + facts .permits % 256 * 2 ^ 24 ⌝ }
 {
     0x100_0000_0000_0000
         | ((facts.cci & 0xff) << 48)

@@ -50,7 +50,8 @@ fn set_plain(ledger: &mut [u8], content: ContentId, state: u8)
 // A row has other permits; no other byte of it changes.
 fn set_permits(ledger: &mut [u8], content: ContentId, permits: u64)
     requires { ⌜ 24 * content .0 + 24 ≤ length (now ledger) ⌝ }
-    ensures { λ _. ⌜ now (ledger .exit) ≡ put (now (ledger .entry)) (24 * content .0) (withPermits (rowAt (now (ledger .entry)) (content .0)) permits) ⌝ }
+    ensures { λ _. ⌜ now (ledger .exit) ≡ put (now (ledger .entry)) (24 * content .0)
+        (withPermits (rowAt (now (ledger .entry)) (content .0)) permits) ⌝ }
 {
     let a = 24 * (content.0 as usize);
     row::write_permits(&mut ledger[a..a + 24], permits);
@@ -74,7 +75,8 @@ fn write_rule(rules: &mut [u8], entry: EntryNumber, facts: Facts, hash: u64, con
 
 fn wipe_title(titles: &mut [u8], entry: EntryNumber, f1: u64)
     requires { ⌜ 16 * entry .0 + 16 ≤ length (now titles) ⌝ }
-    ensures { λ _. ⌜ now (titles .exit) ≡ put (now (titles .entry)) (16 * entry .0) (wiped (titleAt (now (titles .entry)) (entry .0)) f1) ⌝ }
+    ensures { λ _. ⌜ now (titles .exit) ≡ put (now (titles .entry)) (16 * entry .0)
+        (wiped (titleAt (now (titles .entry)) (entry .0)) f1) ⌝ }
 {
     let a = 16 * (entry.0 as usize);
     title::wipe(&mut titles[a..a + 16], f1);
@@ -82,7 +84,8 @@ fn wipe_title(titles: &mut [u8], entry: EntryNumber, f1: u64)
 
 fn wipe_rule(rules: &mut [u8], entry: EntryNumber, fillers: Fillers)
     requires { ⌜ 32 * entry .0 + 32 ≤ length (now rules) ⌝ }
-    ensures { λ _. ⌜ now (rules .exit) ≡ put (now (rules .entry)) (32 * entry .0) (wipedRule (ruleAt (now (rules .entry)) (entry .0)) fillers) ⌝ }
+    ensures { λ _. ⌜ now (rules .exit) ≡ put (now (rules .entry)) (32 * entry .0)
+        (wipedRule (ruleAt (now (rules .entry)) (entry .0)) fillers) ⌝ }
 {
     let a = 32 * (entry.0 as usize);
     rule::wipe(&mut rules[a..a + 32], fillers);

@@ -41,7 +41,8 @@ pub fn rule_half(rules: &[u8], entry: EntryNumber) -> &[u8]
 
 // What an entry is.
 pub fn kind(titles: &[u8], rules: &[u8], entry: EntryNumber) -> EntryKind
-    ensures { λ r. ⌜ kindAnswer r ≡ kindAnswer (kindOf (titleAt (now (titles .entry)) (entry .0)) (ruleAt (now (rules .entry)) (entry .0))) ⌝ }
+    ensures { λ r. ⌜ kindAnswer r
+        ≡ kindAnswer (kindOf (titleAt (now (titles .entry)) (entry .0)) (ruleAt (now (rules .entry)) (entry .0))) ⌝ }
 {
     entry::kind(title_half(titles, entry), rule_half(rules, entry))
 }
@@ -62,7 +63,8 @@ pub fn facts(titles: &[u8], rules: &[u8], entry: EntryNumber) -> Facts
 
 // Whether a full entry may not move: its trigger is 1, or no move right is left. Both stand in its rule half.
 pub fn may_not_move(rules: &[u8], entry: EntryNumber) -> bool
-    ensures { λ r. ⌜ r ≡ mayNotMove (triggerOf (ruleAt (now (rules .entry)) (entry .0))) (rightsOf (ruleAt (now (rules .entry)) (entry .0))) ⌝ }
+    ensures { λ r. ⌜ r ≡ mayNotMove (triggerOf (ruleAt (now (rules .entry)) (entry .0)))
+        (rightsOf (ruleAt (now (rules .entry)) (entry .0))) ⌝ }
 {
     let rule = rule_half(rules, entry);
     count::may_not_move(rule::trigger(rule), rule::rights(rule))

@@ -30,7 +30,9 @@ fn fresh_table(
     mark: u8,
 )
     requires { ⌜ 14 ≤ length (now table) ⌝ }
-    ensures { λ _. ⌜ now (table .exit) ≡ tableHead identifier version (length (now (table .entry))) application width mark ++ replicate (length (now (table .entry)) - 14) 0 ⌝ }
+    ensures { λ _. ⌜ now (table .exit)
+        ≡ tableHead identifier version (length (now (table .entry))) application width mark
+        ++ replicate (length (now (table .entry)) - 14) 0 ⌝ }
 {
     let size = table.len() as u64;
     field::write(&mut table[0..2], identifier);

@@ -63,7 +63,9 @@ pub extern "C" fn counter_register(
     title_key: u64,
     sti_key: u64,
 ) -> u64
-    ensures { λ r. ⌜ AnswersByLedger (Register (title content) (facts cci trigger rights permits «title_key» «sti_key»)) (now (ledger .entry)) r (now (ledger .exit)) ⌝ }
+    ensures { λ r. ⌜ AnswersByLedger
+        (Register (title content) (facts cci trigger rights permits «title_key» «sti_key»))
+        (now (ledger .entry)) r (now (ledger .exit)) ⌝ }
 {
     let facts = Facts {
         cci,
@@ -92,7 +94,8 @@ pub extern "C" fn counter_record(
     sti_key: u64,
     hash: u64,
 ) -> u64
-    ensures { λ r. ⌜ Answers (Record (title content) (place entry) (facts cci trigger rights permits «title_key» «sti_key») hash)
+    ensures { λ r. ⌜ Answers
+        (Record (title content) (place entry) (facts cci trigger rights permits «title_key» «sti_key») hash)
         (lent (ledger .entry) (titles .entry) (rules .entry)) r
         (lent (ledger .exit) (titles .exit) (rules .exit)) ⌝ }
 {
@@ -222,7 +225,8 @@ pub extern "C" fn counter_delete(
 #[no_mangle]
 pub extern "C" fn counter_tally(titles: &[u8], rules: &[u8], content: u64, copies: &mut u64) -> u64
     ensures { λ r. ⌜ r ≡ tallied (now (titles .entry)) (now (rules .entry)) content .number ⌝ }
-    ensures { λ _. ⌜ now (copies .exit) ≡ copiesAfter (tallied (now (titles .entry)) (now (rules .entry)) content) (now (copies .entry)) ⌝ }
+    ensures { λ _. ⌜ now (copies .exit)
+        ≡ copiesAfter (tallied (now (titles .entry)) (now (rules .entry)) content) (now (copies .entry)) ⌝ }
 {
     let found = tally::tally(titles, rules, ContentId(content));
     match found {
@@ -269,7 +273,8 @@ pub extern "C" fn counter_write_request(
 ) -> u64
     ensures { λ r. ⌜ r ≡ writtenAnswer (writingNumbers kind (now (arguments .entry)) (now (bytes .entry))) .number ⌝ }
     ensures { λ _. ⌜ now (bytes .exit) ≡ numbersWrittenTo kind (now (arguments .entry)) (now (bytes .entry)) ⌝ }
-    ensures { λ _. ⌜ now (used .exit) ≡ countAfter (writingNumbers kind (now (arguments .entry)) (now (bytes .entry))) (now (used .entry)) ⌝ }
+    ensures { λ _. ⌜ now (used .exit)
+        ≡ countAfter (writingNumbers kind (now (arguments .entry)) (now (bytes .entry))) (now (used .entry)) ⌝ }
 {
     if kind < 1 {
         return refusal::KIND;

@@ -9,6 +9,7 @@ use native.Mathlib.Decide.{decLt, ℕ-discrete}
 use lib.Dec.{eqb}
 use lib.ListN.{length, getD, replicate}
 use borrow.Author.Tests.{lt-ltb, le-ltb, eq-eqb, ne-eqb}
+use Rattle.formats.specs.Bytes.{Bytes}
 use Rattle.formats.specs.Answer.{Answer}
 use Rattle.formats.specs.Half.{usableOf, idOf, wiped}
 use Rattle.formats.specs.Title.{cciOf, titleHalf}
@@ -182,7 +183,7 @@ entry-facts-back f hash id r t s =
     (rule-permits f hash id (omega arith)) (written-key (title-written (f .cci) (f .«title_key») id) t) (written-key (rule-written f hash id) s)
 
 -- the facts of an entry of bytes whose title half is sound are in their ranges, and its keys are below 2 ^ 56
-module _ (t r : List ℕ) (t-bytes : (i : ℕ) → getD t i 0 < 256) (r-bytes : (i : ℕ) → getD r i 0 < 256) where
+module _ (t r : List ℕ) (t-bytes : Bytes t) (r-bytes : Bytes r) where
   pub entry-facts-range : Sound t → Ranges (entryFacts t r)
   unfolding entryFacts
   entry-facts-range s =

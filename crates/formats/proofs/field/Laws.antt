@@ -9,6 +9,7 @@ use native.Mathlib.Numerals.{add-one}
 use lib.ListN.{length, take, drop, set, getD, replicate, length-append, length-drop}
 use lib.Seq.{drop-cons, take-suc, getD-drop}
 use lib.Pow.{pow-add, pow-mono, mod-pow-add}
+use Rattle.formats.specs.Bytes.{Bytes}
 use Rattle.formats.specs.Part.{part}
 use Rattle.formats.specs.Field.{number, bytesOf, little}
 use Rattle.formats.proofs.Bytes.{bytes, field}
@@ -67,7 +68,7 @@ number-last n a l w =
     ∙ ap (λ (b : ℕ). number (part l a n) * 256 + b) (getD-drop a l n 0)
 
 -- a field of bytes holds a number of so many bits
-pub number-below : (n a : ℕ) (l : List ℕ) → ((i : ℕ) → getD l i 0 < 256) → a + n ≤ length l → number (part l a n) < 2 ^ (8 * n)
+pub number-below : (n a : ℕ) (l : List ℕ) → Bytes l → a + n ≤ length l → number (part l a n) < 2 ^ (8 * n)
 unfolding number
 number-below zero a l bytes w = omega arith
 number-below (suc n) a l bytes w =
@@ -157,7 +158,7 @@ module _ (b1 b2 b3 b4 b5 b6 b7 b8 : ℕ) where
       cc
 
 -- eight bytes read in either order
-pub little-swapped : (l : List ℕ) → length l ≡ 8 → ((i : ℕ) → getD l i 0 < 256) → little (bytesOf 8 (little l)) ≡ number l
+pub little-swapped : (l : List ℕ) → length l ≡ 8 → Bytes l → little (bytesOf 8 (little l)) ≡ number l
 little-swapped l size byte =
     of-cells (λ (m : List ℕ). little (bytesOf 8 (little m)) ≡ number m) 8 l size
     (ap little
@@ -165,7 +166,7 @@ little-swapped l size byte =
     ∙ turned (getD l 0 0) (getD l 1 0) (getD l 2 0) (getD l 3 0) (getD l 4 0) (getD l 5 0) (getD l 6 0) (getD l 7 0))
 
 -- eight bytes turned round twice
-pub twice : (l : List ℕ) → length l ≡ 8 → ((i : ℕ) → getD l i 0 < 256) → bytesOf 8 (little (bytesOf 8 (little l))) ≡ l
+pub twice : (l : List ℕ) → length l ≡ 8 → Bytes l → bytesOf 8 (little (bytesOf 8 (little l))) ≡ l
 twice l size byte =
     of-cells (λ (m : List ℕ). bytesOf 8 (little (bytesOf 8 (little m))) ≡ m) 8 l size
     (ap (λ (m : List ℕ). bytesOf 8 (little m))
@@ -173,7 +174,7 @@ twice l size byte =
     ∙ reversed (getD l 7 0) (getD l 6 0) (getD l 5 0) (getD l 4 0) (getD l 3 0) (getD l 2 0) (getD l 1 0) (getD l 0 0) (byte 7) (byte 6) (byte 5) (byte 4) (byte 3) (byte 2) (byte 1) (byte 0))
 
 -- eight bytes are those of the number that they make
-pub bytes-number : (l : List ℕ) → length l ≡ 8 → ((i : ℕ) → getD l i 0 < 256) → bytesOf 8 (number l) ≡ l
+pub bytes-number : (l : List ℕ) → length l ≡ 8 → Bytes l → bytesOf 8 (number l) ≡ l
 bytes-number l size byte = ap (bytesOf 8) (sym (little-swapped l size byte)) ∙ twice l size byte
 
 -- a field of eight bytes, in the two orders

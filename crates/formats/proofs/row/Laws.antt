@@ -242,7 +242,7 @@ here-facts row h = subst (Reads row) h (reads (eqb (length row) 24) (eqb (getD r
     reads true false false r false false e p = tt
 
 -- its keys are seven bytes each
-pub here-keys : (row : List ℕ) {f : Facts} → stateOf row ≡ Here f → length row ≡ 24 → ((i : ℕ) → getD row i 0 < 256)
+pub here-keys : (row : List ℕ) {f : Facts} → stateOf row ≡ Here f → length row ≡ 24 → Bytes row
     → (f .«title_key» < 2 ^ 56) × (f .«sti_key» < 2 ^ 56)
 unfolding factsOf
 here-keys row h e bytes = rw (here-facts row h .facts) (number-below 7 8 row bytes (omega arith), number-below 7 16 row bytes (omega arith))

@@ -6,6 +6,7 @@ use denote.Ref.{now}
 use lib.Bits.{and-mask}
 use lib.ListN.{getD}
 use borrow.Author.Needs.{needs}
+use Rattle.formats.specs.Bytes.{Bytes}
 use Rattle.formats.proofs.half.Laws.{cut-short, not-flagged, unusable-id, flagged-id, tail-low, tail-flagged, tail-clear}
 use Rattle.formats.proofs.half.usable_id.Statement.{statement}
 use Rattle.formats.proofs.half.usable_id.Tie as tie
@@ -26,7 +27,7 @@ returns-3 c =
     let known = c .before .before .before in
     let h = now (known .before .args .half) in
     let whole = c .before .before .if1 .left in
-    let byte : (i : ℕ) → getD h i 0 < 256 = λ i. known .shared-slice-known .given i .fits in
+    let byte : Bytes h = λ i. known .shared-slice-known .given i .fits in
     and-mask (c .before .read-at .result) 10
     ∙ ap (λ (x : ℕ). x % 1024) (c .before .read-at .ensures)
     ∙ tail-low h byte whole
