@@ -4,9 +4,11 @@
 set -euo pipefail
 cd "$(dirname "$0")/../.."
 mkdir -p target
-# Those of its line in crates.txt that stand in crates/, and itself.
-total=$(awk '$1 == "counter:" { for (i = 2; i <= NF; i++) print $i }' crates.txt | while read -r name; do [ -d "crates/$name" ] && echo "$name"; done | wc -l)
-total=$((total + 1))
+# Itself, and those of its line in crates.txt that stand in crates/.
+total=1
+for name in $(sed -n 's/^counter://p' crates.txt); do
+    if [ -d "crates/$name" ]; then total=$((total + 1)); fi
+done
 if ! rt check counter 2>&1 | tee target/counter.log | awk -v total="$total" '
     / proved \(/ { n++ }
     / proved \([0-9]+ s\)/ { printf "proved %d of %d: %s %s %s\n", n, total, $2, $4, $5 > "/dev/stderr" }

@@ -1,6 +1,6 @@
 -- A call passes its conditions exactly where its needs are met.
 -- Assumes nothing.
-use Prim.Native.Nat.{ℕ, _≤_}
+use Prim.Native.Nat.{ℕ}
 use mathlib.Core.Path.{_≡_, refl, sym, ap, _∙_}
 use mathlib.Core.Logic.{_≢_, _⊎_, inl, inr, ⊎-elim}
 use mathlib.Core.List.{List, [], _∷_}
@@ -8,7 +8,7 @@ use mathlib.Core.Bool.{Bool, true, false, not, _&&_, _||_, true≢false}
 use native.Mathlib.Omega.{arith}
 use lib.ListN.{length}
 use lib.Dec.{eqb}
-use borrow.Author.Tests.{le-leb, leb-true, lt-ltb, ltb-true, eq-eqb, ne-eqb, eqb-true, eqb-false, not-false}
+use borrow.Author.Tests.{lt-ltb, ltb-true, eq-eqb, ne-eqb, eqb-true, eqb-false, not-false}
 use Rattle.formats.specs.Facts.{numbered, factsPass, inRange, keyPasses}
 use Rattle.formats.specs.Head.{LedgerHead, TitlesHead, RulesHead, ledgerPasses, ledgerApplication, titlesPass, rulesPass, rulesApplication}
 use Rattle.formats.specs.declared.facts.Facts.{Facts}

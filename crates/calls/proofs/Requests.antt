@@ -4,17 +4,17 @@ use Prim.Native.Nat.{ℕ}
 use mathlib.Core.Path.{_≡_, refl, sym, ap, _∙_}
 use mathlib.Core.Logic.{⊎-elim}
 use mathlib.Core.List.{List, [], _∷_, _++_, append-assoc}
-use mathlib.Core.Bool.{Bool, true, false, _&&_, cond}
+use mathlib.Core.Bool.{Bool, true, false, cond}
 use native.Mathlib.Omega.{arith}
 use native.Mathlib.Decide.{ℕ-discrete}
 use lib.ListN.{length, getD, drop}
-use lib.Dec.{leb, ltb, eqb}
+use lib.Dec.{ltb, eqb}
 use borrow.Author.Tests.{eq-eqb, ne-eqb, ltb-false}
 use Rattle.formats.specs.Answer.{done}
 use Rattle.formats.specs.Part.{put}
 use Rattle.formats.proofs.Part.{put-length}
 use Rattle.requests.specs.Number.{readNumber, writing, writtenTo, writtenAnswer}
-use Rattle.requests.specs.Request.{passes, limit, kindLimit, schema, kindOf, valuesOf, written, firstLimit, limitOf, ArgumentsRead, Values, Fault, withValue, readArguments, asRequest, readRequest, requestAnswer, remainderOf, writingRequest, requestWrittenTo}
+use Rattle.requests.specs.Request.{passes, kindPasses, limit, kindLimit, schema, kindOf, valuesOf, written, firstLimit, limitOf, ArgumentsRead, Values, Fault, withValue, readArguments, asRequest, readRequest, requestAnswer, remainderOf, writingRequest, requestWrittenTo}
 use Rattle.requests.specs.declared.number.NumberRead.{NumberRead}
 use Rattle.requests.specs.declared.number.NumberRead.the-variants.{Number, Refused as NoNumber}
 use Rattle.requests.specs.declared.request.Argument.{Argument}
@@ -88,7 +88,7 @@ arguments-refuse (a ∷ rest) s =
 -- the kind
 pub kind-tested : (v : ℕ) (cs : List Condition) → first (kindCondition v ∷ cs) ≡ cond (eqb (kindLimit v) 0) (first cs) (kindLimit v)
 unfolding first
-kind-tested v cs = one-limit (leb 1 v && leb v 7) 3 (λ e. omega arith) refl
+kind-tested v cs = one-limit (kindPasses v) 3 (λ e. omega arith) refl
 
 -- an argument, where the answer of those after it is known
 argument-answer : (a : Argument) (rest : List Argument) (s : List ℕ) → ((t : List ℕ) → faultOf (readArguments rest t) ≡ first (argumentsConditions rest t))

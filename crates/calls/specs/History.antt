@@ -58,9 +58,12 @@ unfoldable pub inOrder : Log → Log
 inOrder [] = []
 inOrder (a ∷ log) = inOrder log ++ (a ∷ [])
 
--- the answers of calls one after another
+-- the answers of a run in the order of its calls, and those of calls one after another
+abbrev pub answersIn : Run → List ℕ
+answersIn w = map (λ a. a .answer) (inOrder (w .log))
+
 abbrev pub answers : List Request → Buffers → List ℕ
-answers ks b = map (λ a. a .answer) (inOrder (run ks (from b) .log))
+answers ks b = answersIn (run ks (from b))
 
 -- THE COUNTS, from the log
 

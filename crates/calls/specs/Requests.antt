@@ -2,14 +2,14 @@
 use Prim.Native.Nat.{ℕ}
 use mathlib.Core.Path.{_≡_}
 use mathlib.Core.List.{List, [], _∷_, _++_}
-use mathlib.Core.Bool.{Bool, false, cond, _&&_}
+use mathlib.Core.Bool.{Bool, false, cond}
 use lib.ListN.{length, getD, drop}
-use lib.Dec.{leb, ltb, eqb}
+use lib.Dec.{ltb, eqb}
 use Rattle.formats.specs.Answer.{done}
 use Rattle.formats.specs.Bytes.{Bytes}
 use Rattle.formats.specs.Part.{put}
 use Rattle.requests.specs.Number.{readNumber, writtenAnswer}
-use Rattle.requests.specs.Request.{refusalOf, schema, kindOf, valuesOf, written, limitOf, readRequest, requestAnswer, remainderOf, writingRequest, requestWrittenTo}
+use Rattle.requests.specs.Request.{refusalOf, kindPasses, schema, kindOf, valuesOf, written, limitOf, readRequest, requestAnswer, remainderOf, writingRequest, requestWrittenTo}
 use Rattle.requests.specs.declared.number.NumberRead.{NumberRead}
 use Rattle.requests.specs.declared.number.NumberRead.the-variants.{Number, Refused}
 use Rattle.requests.specs.declared.request.Argument.{Argument}
@@ -49,7 +49,7 @@ argumentsConditions (a ∷ rest) s =
 
 -- "3 kind not 1 to 7"
 abbrev pub kindCondition : ℕ → Condition
-kindCondition kind = 3 unless (leb 1 kind && leb kind 7)
+kindCondition kind = 3 unless kindPasses kind
 
 -- of a request at the front of s, its kind first
 unfoldable pub readingConditions : List ℕ → List Condition

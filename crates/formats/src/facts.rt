@@ -26,14 +26,23 @@ pub struct Fillers {
     pub f4: u64,
 }
 
-// Whether a content ID, an entry number or a count of rows is 1 to 999.
+// Content IDs, entry numbers and the count of a ledger's rows are from 1 to this.
+pub const LAST_NUMBER: u64 = 999;
+
+pub const MOST_TRIGGER: u64 = 1;
+
+// Of move rights and permits.
+pub const MOST_COUNT: u64 = 15;
+
+pub const MOST_KEY: u64 = 0xff_ffff_ffff_ffff;
+
 pub fn is_numbered(v: u64) -> bool
     ensures { λ r. ⌜ r ≡ numbered v ⌝ }
 {
     if v < 1 {
         return false;
     }
-    v <= 999
+    v <= LAST_NUMBER
 }
 
 // Whether a CCI is 0, 2 or 3.
@@ -49,21 +58,20 @@ pub fn is_cci(v: u64) -> bool
 pub fn is_trigger(v: u64) -> bool
     ensures { λ r. ⌜ r ≡ triggerPasses v ⌝ }
 {
-    v <= 1
+    v <= MOST_TRIGGER
 }
 
-// Whether move rights or permits are 0 to 15.
+// Whether move rights or permits are in their range.
 pub fn is_count(v: u64) -> bool
     ensures { λ r. ⌜ r ≡ countPasses v ⌝ }
 {
-    v <= 15
+    v <= MOST_COUNT
 }
 
-// Whether a key is below 2^56.
 pub fn is_key(v: u64) -> bool
     ensures { λ r. ⌜ r ≡ keyPasses v ⌝ }
 {
-    v < 0x100_0000_0000_0000
+    v <= MOST_KEY
 }
 
 // Whether CCI, trigger, rights and permits are in their ranges.

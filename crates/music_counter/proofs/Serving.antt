@@ -13,10 +13,10 @@ use Rattle.requests.specs.declared.request.RequestRead.the-variants.{Read, Refu
 use Rattle.requests.proofs.request.Laws.{request-form, same-request}
 use Rattle.calls.specs.Buffers.{Buffers}
 use Rattle.calls.specs.Perform.{Performed, perform}
-use Rattle.calls.specs.History.{Answered, Log, Run, run, inOrder}
+use Rattle.calls.specs.History.{Answered, Log, Run, run, inOrder, answersIn}
 use Rattle.calls.proofs.InBounds.{in-bounds}
 use Rattle.music_counter.specs.Answer.{Answers}
-use Rattle.music_counter.specs.Serve.{Stream, further, readStream, streamOf, servedRun, kindsIn, answersIn, overwritten, Serves}
+use Rattle.music_counter.specs.Serve.{Stream, further, readStream, streamOf, servedRun, kindsIn, overwritten, Serves}
 
 -- THE STREAM, request by request
 

@@ -2,13 +2,14 @@
 use Prim.Native.Nat.{ℕ}
 use mathlib.Core.Path.{_≡_}
 use mathlib.Core.List.{List}
-use Rattle.calls.specs.History.{run, After}
+use Rattle.calls.specs.History.{After}
 use Rattle.tables.specs.Format.{ledgerFormatting, cardFormatting}
 use Rattle.tables.specs.History.{formatted}
-use Rattle.music_counter.specs.Serve.{streamOf}
+use Rattle.music_counter.specs.Serve.{servedRun}
 
--- the calls of a stream are a list of demand 3, from which serving leaves the buffers (`Serves`): every title granted in it adds up
+-- the run of which `Serves` says that serving a stream answers and leaves it, from what formatting left: every title granted in it
+-- adds up
 abbrev pub ServedHistory : Type 0
 ServedHistory =
     (ledger titles rules : List ℕ) (rows application cardApplication : ℕ) → ledgerFormatting ledger rows ≡ 0 → cardFormatting titles rules ≡ 0
-    → (s : List ℕ) → After (run (streamOf s .requests) (formatted ledger titles rules rows application cardApplication))
+    → (s : List ℕ) → After (servedRun s (formatted ledger titles rules rows application cardApplication .buffers))

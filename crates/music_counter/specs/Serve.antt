@@ -8,7 +8,7 @@ use Rattle.requests.specs.declared.request.Request.{Request}
 use Rattle.requests.specs.declared.request.RequestRead.{RequestRead}
 use Rattle.requests.specs.declared.request.RequestRead.the-variants.{Read, Refused}
 use Rattle.calls.specs.Buffers.{Buffers}
-use Rattle.calls.specs.History.{Run, from, run, inOrder}
+use Rattle.calls.specs.History.{Run, from, run, inOrder, answersIn}
 use Rattle.music_counter.specs.declared.serve.Served.{Served}
 
 -- the requests that are read one after another, and "0 where no byte is left, or the number that stopped reading"
@@ -34,14 +34,11 @@ streamOf s = readStream (length s) s
 abbrev pub servedRun : List ℕ → Buffers → Run
 servedRun s b = run (streamOf s .requests) (from b)
 
--- "a line per request, kind and answer": both, in the order of the requests
+-- "a line per request, kind and answer": the kinds, beside `answersIn`, in the order of the requests
 abbrev pub kindsIn : Run → List ℕ
 kindsIn w = map (λ a. kindOf (a .call)) (inOrder (w .log))
 
-abbrev pub answersIn : Run → List ℕ
-answersIn w = map (λ a. a .answer) (inOrder (w .log))
-
--- places for numbers, in which as many were written as there are places
+-- places for numbers, with as many of these numbers as there are places for; places after them keep what they had
 unfoldable pub overwritten : List ℕ → List ℕ → List ℕ
 overwritten [] numbers = []
 overwritten (x ∷ places) [] = x ∷ places

@@ -66,8 +66,11 @@ schema kind =
     (cond (eqb kind 7) (Entry ∷ Any ∷ Any ∷ Any ∷ Any ∷ []) []))))))
 
 -- "3 kind not 1 to 7"
+abbrev pub kindPasses : ℕ → Bool
+kindPasses kind = leb 1 kind && leb kind 7
+
 abbrev pub kindLimit : ℕ → ℕ
-kindLimit kind = unless (leb 1 kind && leb kind 7) 3
+kindLimit kind = unless (kindPasses kind) 3
 
 -- the kind of a request, and the values of its arguments
 abbrev pub kindOf : Request → ℕ

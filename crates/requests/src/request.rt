@@ -1,7 +1,9 @@
 // Requests: a kind and its arguments, each a number in groups of seven bits.
 ghost use mathlib.Core.Path.{_≡_};
+ghost use mathlib.Core.Bool.{_&&_};
 ghost use Prim.Native.Nat.{_+_, _≤_, _<_};
 ghost use lib.ListN.{length};
+ghost use lib.Dec.{leb};
 ghost use Rattle.formats.specs.Part.{put};
 ghost use Rattle.requests.specs.Number.{numberAnswer, writtenAnswer};
 ghost use Rattle.formats.specs.Refusal.{unless};
@@ -124,30 +126,38 @@ fn limited(passes: bool, refusal: u64) -> u64
     if passes { 0 } else { refusal }
 }
 
+// 0 where a value is from `least` to `most`, else the refusal. Most arguments are limited in this one form, of which the compiler
+// makes one test with its numbers from a table.
+fn range_limit(value: u64, least: u64, most: u64, refusal: u64) -> u64
+    ensures { λ r. ⌜ r ≡ unless (leb least value && leb value most) refusal ⌝ }
+{
+    if value < least {
+        return refusal;
+    }
+    limited(value <= most, refusal)
+}
+
 // 0 where a value is within its argument's limit, else the refusal.
 fn argument_limit(argument: Argument, value: u64) -> u64
     ensures { λ r. ⌜ r ≡ limit argument value ⌝ }
 {
     match argument {
-        Argument::Content => limited(facts::is_numbered(value), refusal::CONTENT_ID),
-        Argument::Entry => limited(facts::is_numbered(value), refusal::ENTRY_NUMBER),
+        Argument::Content => range_limit(value, 1, facts::LAST_NUMBER, refusal::CONTENT_ID),
+        Argument::Entry => range_limit(value, 1, facts::LAST_NUMBER, refusal::ENTRY_NUMBER),
         Argument::Cci => limited(facts::is_cci(value), refusal::FACTS),
-        Argument::Trigger => limited(facts::is_trigger(value), refusal::FACTS),
-        Argument::Rights => limited(facts::is_count(value), refusal::FACTS),
-        Argument::Permits => limited(facts::is_count(value), refusal::FACTS),
-        Argument::Key => limited(facts::is_key(value), refusal::FACTS),
+        Argument::Trigger => range_limit(value, 0, facts::MOST_TRIGGER, refusal::FACTS),
+        Argument::Rights => range_limit(value, 0, facts::MOST_COUNT, refusal::FACTS),
+        Argument::Permits => range_limit(value, 0, facts::MOST_COUNT, refusal::FACTS),
+        Argument::Key => range_limit(value, 0, facts::MOST_KEY, refusal::FACTS),
         Argument::Any => 0,
     }
 }
 
 // 0 where a kind is 1 to 7, else 3.
-fn kind_limit(kind: u64) -> u64
+pub fn kind_limit(kind: u64) -> u64
     ensures { λ r. ⌜ r ≡ kindLimit kind ⌝ }
 {
-    if kind < 1 {
-        return refusal::KIND;
-    }
-    limited(kind <= 7, refusal::KIND)
+    range_limit(kind, 1, 7, refusal::KIND)
 }
 
 // A request as numbers.

@@ -20,3 +20,7 @@ mayHold c titles j =
 -- how many of the three are copies of c
 unfoldable pub inThree : ℕ → List ℕ → List ℕ → ℕ → ℕ
 inThree c titles rules j = one (copyAt c titles rules j) + one (copyAt c titles rules (j + 1)) + one (copyAt c titles rules (j + 2))
+
+-- whether any of the three is
+abbrev pub anyOfThree : ℕ → List ℕ → List ℕ → ℕ → Bool
+anyOfThree c titles rules j = not (eqb (inThree c titles rules j) 0)

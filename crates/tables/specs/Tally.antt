@@ -5,8 +5,9 @@ use mathlib.Core.Bool.{cond}
 use lib.Dec.{eqb}
 use Rattle.formats.specs.Answer.{Answer, done, refused}
 use Rattle.formats.specs.Head.{titlesPass, rulesPass}
-use Rattle.formats.specs.Facts.{numbered}
+use Rattle.requests.specs.declared.request.Argument.the-variants.{Content}
 use Rattle.calls.specs.Buffers.{copies}
+use Rattle.calls.specs.Conditions.{_limits_}
 use Rattle.calls.specs.Refusal.{Condition, _unless_, first}
 use Rattle.tables.specs.declared.tally.Tallied.{Tallied}
 use Rattle.tables.specs.declared.tally.Tallied.the-variants.{Copies, Refused}
@@ -19,7 +20,7 @@ tallyAnswer (Refused w) = refused w
 -- "4 c not 1 to 999"; "8 title table length or head wrong"; "9 rule table likewise, its application number other than the
 -- ledger's included (a tally, without ledger, skips that number)"
 abbrev pub tallyConditions : List ℕ → List ℕ → ℕ → List Condition
-tallyConditions titles rules c = 4 unless numbered c ∷ 8 unless titlesPass titles ∷ 9 unless rulesPass rules ∷ []
+tallyConditions titles rules c = Content limits c ∷ 8 unless titlesPass titles ∷ 9 unless rulesPass rules ∷ []
 
 -- "Checks of a call or tally go in number order over what it takes."
 unfoldable pub tallyRefusal : List ℕ → List ℕ → ℕ → ℕ

@@ -6,7 +6,7 @@ ghost use lib.Dec.{eqb};
 ghost use lib.ListN.{length};
 ghost use Rattle.formats.specs.Half.{flaggedWith};
 ghost use Rattle.calls.specs.Buffers.{titleAt, copyOf, copies, one};
-ghost use Rattle.tables.specs.Copies.{copyAt, mayHold, inThree};
+ghost use Rattle.tables.specs.Copies.{copyAt, mayHold, inThree, anyOfThree};
 use crate::card;
 use formats::facts;
 use formats::facts::ContentId;
@@ -96,6 +96,21 @@ pub fn count(titles: &[u8], rules: &[u8], content: ContentId) -> u64
     n
 }
 
+// Whether any of three entries from entry j on is a copy of a title. Apart from `in_three`, so that the compiler puts each into
+// its one caller.
+fn any_of_three(titles: &[u8], rules: &[u8], j: u64, content: ContentId) -> bool
+    requires { ⌜ j ≤ 997 ⌝ }
+    ensures { λ r. ⌜ r ≡ anyOfThree (content .0) (now (titles .entry)) (now (rules .entry)) j ⌝ }
+{
+    if is_copy_at(titles, rules, EntryNumber(j), content) {
+        return true;
+    }
+    if is_copy_at(titles, rules, EntryNumber(j + 1), content) {
+        return true;
+    }
+    is_copy_at(titles, rules, EntryNumber(j + 2), content)
+}
+
 // Whether any entry is a copy of a title. The search stops at the first.
 pub fn any(titles: &[u8], rules: &[u8], content: ContentId) -> bool
     ensures { λ r. ⌜ r ≡ not (eqb (copies (content .0) (now (titles .entry)) (now (rules .entry))) 0) ⌝ }
@@ -103,7 +118,7 @@ pub fn any(titles: &[u8], rules: &[u8], content: ContentId) -> bool
     for k in 0..333 {
         let j = 3 * k + 1;
         if may_hold(titles, j, content) {
-            if in_three(titles, rules, j, content) != 0 {
+            if any_of_three(titles, rules, j, content) {
                 return true;
             }
         }

@@ -1,9 +1,9 @@
 -- The places for a request's numbers, by what reading or writing answered.
 -- Assumes nothing.
-use Prim.Native.Nat.{ℕ, _≤_, _<_}
+use Prim.Native.Nat.{ℕ}
 use mathlib.Core.Path.{_≡_, refl, sym, ap, _∙_}
 use mathlib.Core.List.{List}
-use borrow.Author.Tests.{le-leb, lt-leb}
+use borrow.Author.Tests.{eq-eqb, ne-eqb}
 use Rattle.requests.specs.declared.number.Written.{Written}
 use Rattle.requests.specs.declared.number.Written.the-variants.{Wrote, Refused as NotWritten}
 use Rattle.requests.specs.declared.request.Request.{Request}
@@ -11,7 +11,7 @@ use Rattle.requests.specs.declared.request.RequestRead.{RequestRead}
 use Rattle.requests.specs.declared.request.RequestRead.the-variants.{Read, Refused}
 use Rattle.requests.specs.Number.{writtenAnswer}
 use Rattle.requests.specs.Packed.{Holds}
-use Rattle.requests.specs.Request.{readRequest, requestAnswer, requestOf, writingRequest, requestWrittenTo}
+use Rattle.requests.specs.Request.{kindLimit, readRequest, requestAnswer, requestOf, writingRequest, requestWrittenTo}
 use Rattle.requests.proofs.number.Laws.{same-written}
 use Rattle.requests.proofs.request.Laws.{same-request}
 use Rattle.till.specs.Requests.{kindAfter, argumentsAfter, usedAfter, writingNumbers, numbersWrittenTo, countAfter}
@@ -40,25 +40,22 @@ Promised kind arguments out used r after n =
     (r ≡ writtenAnswer (writingNumbers kind arguments out) .number) × ((after ≡ numbersWrittenTo kind arguments out) × (n ≡ countAfter (writingNumbers kind arguments out) used))
 
 module _ (kind : ℕ) (arguments out : List ℕ) (used : ℕ) where
-  pub below : kind < 1 → Promised kind arguments out used 3 out used
+  -- the kind is none
+  pub no-kind : {w : ℕ} → w ≡ kindLimit kind → (w ≡ 0 → ⊥) → Promised kind arguments out used w out used
   unfolding writingNumbers numbersWrittenTo
-  below h = let t = lt-leb 1 kind h in (simp t, (simp t, simp t))
+  no-kind e other = let t = ne-eqb (kindLimit kind) 0 (λ z. other (e ∙ z)) in (simp t e, (simp t, simp t))
 
-  pub above : 1 ≤ kind → 7 < kind → Promised kind arguments out used 3 out used
-  unfolding writingNumbers numbersWrittenTo
-  above l h = let s = le-leb 1 kind l in let t = lt-leb kind 7 h in (simp (s, t), (simp (s, t), simp (s, t)))
-
-  module _ (l : 1 ≤ kind) (h : kind ≤ 7) {q : Request} {a : Written} {after : List ℕ} (of : q ≡ requestOf kind arguments)
+  -- it is one
+  module _ {w : ℕ} (e : w ≡ kindLimit kind) (zero : w ≡ 0) {q : Request} {a : Written} {after : List ℕ} (of : q ≡ requestOf kind arguments)
       (answered : writtenAnswer a ≡ writtenAnswer (writingRequest q out)) (left : after ≡ requestWrittenTo q out) where
     by : (a ≡ writingNumbers kind arguments out) × (after ≡ numbersWrittenTo kind arguments out)
     unfolding writingNumbers numbersWrittenTo
     by =
-        let s = le-leb 1 kind l in
-        let t = le-leb kind 7 h in
-        (simp (s, t) (same-written answered ∙ ap (λ (p : Request). writingRequest p out) of), simp (s, t) (left ∙ ap (λ (p : Request). requestWrittenTo p out) of))
+        let t = eq-eqb (kindLimit kind) 0 (sym e ∙ zero) in
+        (simp t (same-written answered ∙ ap (λ (p : Request). writingRequest p out) of), simp t (left ∙ ap (λ (p : Request). requestWrittenTo p out) of))
 
     pub wrote : {n : ℕ} → a ≡ Wrote n → Promised kind arguments out used 0 after n
-    wrote e = let x = sym (by .0) ∙ e in (ap (λ (z : Written). writtenAnswer z .number) (sym x), (by .1, ap (λ (z : Written). countAfter z used) (sym x)))
+    wrote made = let x = sym (by .0) ∙ made in (ap (λ (z : Written). writtenAnswer z .number) (sym x), (by .1, ap (λ (z : Written). countAfter z used) (sym x)))
 
     pub refused : {w : ℕ} → a ≡ NotWritten w → Promised kind arguments out used w after used
-    refused e = let x = sym (by .0) ∙ e in (ap (λ (z : Written). writtenAnswer z .number) (sym x), (by .1, ap (λ (z : Written). countAfter z used) (sym x)))
+    refused made = let x = sym (by .0) ∙ made in (ap (λ (z : Written). writtenAnswer z .number) (sym x), (by .1, ap (λ (z : Written). countAfter z used) (sym x)))

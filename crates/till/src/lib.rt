@@ -17,7 +17,6 @@ use formats::facts::ContentId;
 use formats::facts::EntryNumber;
 use formats::facts::Facts;
 use formats::facts::Fillers;
-use formats::refusal;
 use music_counter::check_in;
 use music_counter::check_out;
 use music_counter::delete;
@@ -276,11 +275,9 @@ pub extern "C" fn counter_write_request(
     ensures { λ _. ⌜ now (used .exit)
         ≡ countAfter (writingNumbers kind (now (arguments .entry)) (now (bytes .entry))) (now (used .entry)) ⌝ }
 {
-    if kind < 1 {
-        return refusal::KIND;
-    }
-    if 7 < kind {
-        return refusal::KIND;
+    let w = request::kind_limit(kind);
+    if w != 0 {
+        return w;
     }
     let written = request::write(request::request_of(kind, *arguments), bytes);
     match written {

@@ -1,7 +1,7 @@
 -- `edges::cases` is safe and ends. A line starts at or before the place that is read, and its digits fit in the bytes of a case.
 -- Assumes nothing.
 use mathlib.Core.Path.{_≡_}
-use Prim.Native.Nat.{ℕ, _≤_, _-_, _*_}
+use Prim.Native.Nat.{ℕ, _≤_, _-_}
 use lib.ListN.{length, length-replicate}
 use native.Mathlib.Omega.{arith}
 use borrow.Author.Needs.{needs}

@@ -7,7 +7,7 @@ use mathlib.Core.Bool.{Bool, true, false, _||_, cond}
 use native.Mathlib.Omega.{arith}
 use native.Mathlib.Decide.{decLt, ℕ-discrete}
 use lib.Dec.{eqb}
-use lib.ListN.{length, getD, replicate}
+use lib.ListN.{length, replicate}
 use borrow.Author.Tests.{lt-ltb, le-ltb, eq-eqb, ne-eqb}
 use Rattle.formats.specs.Bytes.{Bytes}
 use Rattle.formats.specs.Answer.{Answer}

@@ -127,9 +127,7 @@ zeros-unusable n = not-flagged (replicate n 0) (rw (zero-at n 8) refl)
 -- what a wipe with f leaves of h in its first 16 bytes
 pub record Wiped (h : List ℕ) (f : ℕ) (w : List ℕ) : Type 0 where
   pub unusable : usableOf w ≡ false
-  pub id-kept : idOf w ≡ idOf h
   pub key-is : keyOf w ≡ f % 2 ^ 56
-  pub low-kept : getD w 8 0 % 128 ≡ getD h 8 0 % 128
   pub bytes-9-15 : (i : ℕ) → 9 ≤ i → i ≤ 15 → getD w i 0 ≡ getD h i 0
 
 -- the key is gone, if the filler's low 56 bits are not the key itself
@@ -151,11 +149,11 @@ module _ (h : List ℕ) (f : ℕ) where
   -- a wiped half keeps its length
   pub wiped-length : 16 ≤ length h → length (wiped h f) ≡ length h
   unfolding wiped
-  wiped-length size = put-length h (bytesOf 8 f ++ (getD h 8 0 % 128 ∷ [])) 0 (simp (length-append, length-bytesOf) (omega arith))
+  wiped-length size = put-length h _ 0 (simp (length-append, length-bytesOf) (omega arith))
 
   flag-cleared : flagOf (wiped h f) ≡ false
   unfolding wiped put bytesOf
-  flag-cleared = lt-leb 128 (getD h 8 0 % 128) (omega arith)
+  flag-cleared = lt-leb 128 (getD (wiped h f) 8 0) (omega arith)
 
   -- a wiped half
   pub half-wiped : Wiped h f (wiped h f)
@@ -163,9 +161,7 @@ module _ (h : List ℕ) (f : ℕ) where
   half-wiped =
       record {
         unusable = not-flagged (wiped h f) flag-cleared;
-        id-kept = rw (wiped-kept 14 (omega arith), wiped-kept 15 (omega arith)) refl;
         key-is = number-bytesOf 7 f;
-        low-kept = omega arith;
         bytes-9-15 = λ i low high. wiped-kept i low;
       }
 
@@ -176,9 +172,7 @@ still-wiped {w = w} q room was =
     let before = getD-put-before w q 16 room in
     record {
       unusable = simp (put-length w q 16 room, before 8 (omega arith), before 14 (omega arith), before 15 (omega arith)) (was .unusable);
-      id-kept = simp (before 14 (omega arith), before 15 (omega arith)) (was .id-kept);
       key-is = ap number (part-put-before w q 16 room 1 7 (omega arith)) ∙ was .key-is;
-      low-kept = simp (before 8 (omega arith)) (was .low-kept);
       bytes-9-15 = λ i low high. before i (omega arith) ∙ was .bytes-9-15 i low high;
     }
 

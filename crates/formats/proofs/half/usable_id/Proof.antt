@@ -1,10 +1,9 @@
 -- `formats::half::usable_id` meets its contract.
 -- Assumes nothing.
-use Prim.Native.Nat.{ℕ, _%_, _<_}
+use Prim.Native.Nat.{ℕ, _%_}
 use mathlib.Core.Path.{ap, _∙_}
 use denote.Ref.{now}
 use lib.Bits.{and-mask}
-use lib.ListN.{getD}
 use borrow.Author.Needs.{needs}
 use Rattle.formats.specs.Bytes.{Bytes}
 use Rattle.formats.proofs.half.Laws.{cut-short, not-flagged, unusable-id, flagged-id, tail-low, tail-flagged, tail-clear}

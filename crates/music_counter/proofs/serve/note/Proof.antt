@@ -1,7 +1,6 @@
 -- `music_counter::serve::note` meets its contract.
 -- Assumes nothing.
 use mathlib.Core.Path.{sym}
-use native.Mathlib.Omega.{arith}
 use lib.Seq.{set-out}
 use borrow.Author.Needs.{needs}
 use Rattle.music_counter.proofs.serve.note.Statement.{statement}

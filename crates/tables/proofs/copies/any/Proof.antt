@@ -5,6 +5,7 @@ use mathlib.Core.Path.{refl, sym, _∙_}
 use mathlib.Core.Logic.{⊎-elim}
 use native.Mathlib.Omega.{arith}
 use native.Mathlib.Nat.{zero-add}
+use borrow.Author.Tests.{eqb-true, eqb-false, not-true, not-false}
 use Rattle.calls.specs.Buffers.{copies}
 use Rattle.tables.specs.Copies.{copyAt}
 use Rattle.tables.proofs.Counting.{Counted, start, found, none-found}
@@ -24,7 +25,8 @@ returns c =
     let at-three = c .before in
     let at-test = at-three .before .before .before in
     let l = at-test .before .loop in
-    found (all-three _ _ _ (l .inv) (at-test .loop-test .taken) (at-three .in-three .ensures ∙ sym (zero-add _))) (c .if2 .taken)
+    let some = eqb-false _ _ (not-true _ (sym (at-three .any-of-three .ensures) ∙ c .if2 .taken)) in
+    found (all-three _ _ _ (l .inv) (at-test .loop-test .taken) (sym (zero-add _))) some
 
 loop-again : tie.Need-loop-again Inv-loop μ-loop
 loop-again c =
@@ -32,7 +34,7 @@ loop-again c =
     let l = at-test .before .loop in
     let within = at-test .loop-test .taken in
     ⊎-elim
-    (λ w. all-three _ _ _ (l .inv) within (sym (w .2 .left) ∙ w .1 .ensures ∙ sym (zero-add _)))
+    (λ w. all-three _ _ _ (l .inv) within (sym (eqb-true _ _ (not-false _ (sym (w .1 .ensures) ∙ w .2 .left))) ∙ sym (zero-add _)))
     (λ w. none-of-three _ _ _ (l .inv) within (sym (w .left) ∙ c .before .may-hold .ensures) refl)
     (c .if1 .came)
 
