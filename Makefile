@@ -1,5 +1,7 @@
 # make demo: the counter on document 01's example. make test: the proofs, and every test.
 # make bench: the library against plain C. make plot: a picture of what it measured.
+SHELL = bash
+.SHELLFLAGS = -o pipefail -ec
 .PHONY: demo test host-tests expected till constants compare soak programs requests references history bench plot
 .PHONY: target/staticlib/libtill.a target/bin/counter
 

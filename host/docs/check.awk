@@ -25,6 +25,7 @@ function take_in(file,    text, line, words, count, i, item, words_before) {
     taken[file] = 1
     while ((getline text < file) > 0) {
         line++
+        if (file ~ /\/specs\// && text ~ /\.declared\..*\.\{/) take_type(file, text)
         count = words_of(text, words)
         item = 0
         words_before = 1
@@ -38,6 +39,16 @@ function take_in(file,    text, line, words, count, i, item, words_before) {
         }
     }
     close(file)
+}
+
+# A type of the source that a definition imports: `use CRATE.specs.declared.MODULE.TYPE.{TYPE}`, of its own crate with `CRATE·specs.`
+# before it.
+function take_type(file, text,    parts, module) {
+    split(text, parts, ".declared.")
+    module = parts[1]
+    sub(/^use Rattle·/, "", module); sub(/·specs$/, "", module); sub(/\.specs$/, "", module); sub(/·specs$/, "", module)
+    split(parts[2], parts, ".")
+    imported["crates/" module "/src/" parts[1] ".rt", parts[2]] = file
 }
 
 # A name that a place `file:line` has beside it. Answers the line that is right.
@@ -165,6 +176,10 @@ function check_listed(    file, key, parts) {
         split(key, parts, SUBSEP)
         if (parts[1] !~ /\/specs\// || parts[1] ~ /\/(Examples|SampleRun|Lib)\.antt$/) continue
         if (!(key in listed)) fail(parts[2] " of " parts[1] " is not listed")
+    }
+    for (key in imported) {
+        split(key, parts, SUBSEP)
+        if (!(key in listed)) fail(parts[2] " of " parts[1] ", which " imported[key] " imports, is not listed")
     }
 }
 

@@ -9,11 +9,15 @@ mod tables;
 
 use numbers::{decode, encode, form, parse};
 use shop::Shop;
+use std::collections::BTreeSet;
 use std::sync::atomic::{AtomicBool, Ordering};
+use std::sync::Mutex;
 use tables::*;
 
 // Whether the answers are printed too.
 static ANSWERS: AtomicBool = AtomicBool::new(false);
+
+static PRINTED: Mutex<BTreeSet<String>> = Mutex::new(BTreeSet::new());
 
 fn hex(s: &[u8]) -> String {
     s.iter().map(|b| format!("{:02x}", b)).collect()
@@ -54,7 +58,11 @@ impl Case {
         let names = ["cci", "trigger", "rights", "permits", "title-key", "sti-key"];
         names.iter().zip(f.values()).fold(self, |case, (name, x)| case.number(name, x))
     }
+    // A case that was there before is not printed again.
     fn end(self) {
+        if !PRINTED.lock().unwrap().insert(self.line.clone()) {
+            return;
+        }
         if ANSWERS.load(Ordering::Relaxed) {
             println!("{}{} ->{}", self.line, self.names, self.answer);
         } else {

@@ -52,6 +52,7 @@ same "the constants of $header" "$source" "$(enumerated)"
 same "a line of the enumeration of $header is none of these" "$((last + 1))" "$(sed -n '/^enum {$/,/^};$/p' "$header" | grep -c COUNTER_)"
 same "counter_text of $header" "$source" "$(answered)"
 requests=$(named host/requests/answers.rs | cut -d' ' -f1,2)
+[ -n "$requests" ] || { echo 'host/requests/answers.rs: no number has a name'; exit 1; }
 same 'host/requests/answers.rs' "$(cut -d' ' -f1,2 <<< "$source" | grep -xF "$requests")" "$requests"
 
 # The number in the one line of a file that this expression matches: EXPRESSION FILE.

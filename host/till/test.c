@@ -133,7 +133,7 @@ static struct {
     uint64_t h, f1, f2, f3, f4;
 } a;
 
-/* Tally's third result. */
+/* Tally's second result. */
 static uint64_t copies, copies_wanted;
 
 static void fresh_ledger(uint64_t rows)

@@ -1,4 +1,4 @@
-// The numbers of the refusals. A call that is done answers 0.
+// The numbers of the refusals that more than one layer knows: of requests, arguments and heads. A call that is done answers 0.
 
 // Request bytes end too early, or too little room for them.
 pub const TOO_SHORT: u64 = 1;

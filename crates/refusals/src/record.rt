@@ -7,11 +7,11 @@ ghost use Rattle.calls.specs.Buffers.{lent};
 ghost use Rattle.calls.specs.Refusal.{first};
 ghost use Rattle.calls.specs.Conditions.{argumentConditions, stateConditions};
 ghost use Rattle.calls.specs.Perform.{refusal};
+use crate::refusal;
 use formats::facts;
 use formats::facts::ContentId;
 use formats::facts::EntryNumber;
 use formats::facts::Facts;
-use formats::refusal;
 use tables::card;
 use tables::heads;
 use tables::ledger;
@@ -20,13 +20,13 @@ fn arguments(content: ContentId, entry: EntryNumber, facts: Facts) -> u64
     ensures { λ r. ⌜ ((hash : ℕ) → r ≡ first (argumentConditions (Record content entry facts hash))) ⌝ }
 {
     if !facts::is_numbered(content.0) {
-        return refusal::CONTENT_ID;
+        return formats::refusal::CONTENT_ID;
     }
     if !facts::is_numbered(entry.0) {
-        return refusal::ENTRY_NUMBER;
+        return formats::refusal::ENTRY_NUMBER;
     }
     if !facts::are_facts(facts) {
-        return refusal::FACTS;
+        return formats::refusal::FACTS;
     }
     0
 }
@@ -37,10 +37,10 @@ fn state(ledger: &[u8], titles: &[u8], rules: &[u8], content: ContentId, entry: 
 {
     let kind = card::kind(titles, rules, entry);
     if !card::is_free(kind) {
-        return crate::refusal::KIND_OF_ENTRY;
+        return refusal::KIND_OF_ENTRY;
     }
     if !ledger::is_empty(ledger::state(ledger, content)) {
-        return crate::refusal::STATE_OF_ROW;
+        return refusal::STATE_OF_ROW;
     }
     0
 }

@@ -4,21 +4,21 @@ ghost use Rattle.requests.specs.declared.request.Request.the-variants.{Register
 ghost use Rattle.calls.specs.Refusal.{first};
 ghost use Rattle.calls.specs.Conditions.{argumentConditions};
 ghost use Rattle.refusals.specs.Ledger.{RefusedByLedger};
+use crate::refusal;
 use formats::facts;
 use formats::facts::ContentId;
 use formats::facts::Facts;
 use formats::head;
-use formats::refusal;
 use tables::ledger;
 
 fn arguments(content: ContentId, facts: Facts) -> u64
     ensures { λ r. ⌜ r ≡ first (argumentConditions (Register content facts)) ⌝ }
 {
     if !facts::is_numbered(content.0) {
-        return refusal::CONTENT_ID;
+        return formats::refusal::CONTENT_ID;
     }
     if !facts::are_facts(facts) {
-        return refusal::FACTS;
+        return formats::refusal::FACTS;
     }
     0
 }
@@ -35,7 +35,7 @@ pub fn refusal(ledger: &[u8], content: ContentId, facts: Facts) -> u64
         return w;
     }
     if !ledger::is_empty(ledger::state(ledger, content)) {
-        return crate::refusal::STATE_OF_ROW;
+        return refusal::STATE_OF_ROW;
     }
     0
 }
