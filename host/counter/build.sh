@@ -9,10 +9,14 @@ total=1
 for name in $(sed -n 's/^counter://p' crates.txt); do
     if [ -d "crates/$name" ]; then total=$((total + 1)); fi
 done
-if ! rt check counter 2>&1 | tee target/counter.log | awk -v total="$total" '
-    / proved \(/ { n++ }
-    / proved \([0-9]+ s\)/ { printf "proved %d of %d: %s %s %s\n", n, total, $2, $4, $5 > "/dev/stderr" }
-'; then
+proved=0
+if ! rt check counter 2>&1 | tee target/counter.log | while read -r who name word time _; do
+    if [ "$who $word" = "rt: proved" ]; then
+        proved=$((proved + 1))
+        # What is proved already is told with other words in the place of a time.
+        if [[ $time =~ ^\([0-9]+$ ]]; then echo "proved $proved of $total: $name, ${time#(} s" >&2; fi
+    fi
+done; then
     tail -20 target/counter.log
     exit 1
 fi

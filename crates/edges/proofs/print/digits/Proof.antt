@@ -16,14 +16,6 @@ abbrev μ-loop : tie.MeasureT-loop
 pub digits-spec : {M : Type 1} → statement M
 digits-spec =
     tie.close
-    (tie.spec
-    Inv-loop
-    μ-loop
-    (λ c. search needs)
-    (λ c. omega arith)
+    (tie.spec Inv-loop μ-loop (λ c. search needs) (λ c. omega arith)
     (λ c. omega (arith, c .shared-slice-known2 .given (c .before .before .loop .k)))
-    (λ c κs. search needs)
-    (λ c. omega arith)
-    (λ c. omega arith)
-    (λ c. search needs)
-    (λ c. search needs))
+    (λ c κs. search needs) (λ c. omega arith) (λ c. omega arith) (λ c. search needs) (λ c. search needs))
