@@ -19,6 +19,7 @@ use Rattle.calls.specs.Buffers.{Buffers, stateIn}
 use Rattle.calls.specs.Refusal.{first}
 use Rattle.calls.specs.Conditions.{argumentConditions, headConditions, stateConditions, conditions}
 use Rattle.calls.specs.Perform.{refusal}
+use Rattle.calls.proofs.Limits.{argument-numbers}
 use Rattle.calls.proofs.Refusals.{refusing, both-refuse, first-stage, next-stage}
 
 -- a test in code that says what a definition's test says; `!` of it in code likewise
@@ -41,15 +42,7 @@ module _ {A : Type 0} {r : A} where
 
 -- A CALL'S REFUSAL, stage by stage: its arguments, the heads of what it is lent, and what stands there
 
-argument-numbers : (k : Request) → refusing (argumentConditions k) ≡ true
-argument-numbers (Register c f) = refl
-argument-numbers (Record c j f h) = refl
-argument-numbers (CheckOut c j) = refl
-argument-numbers (CheckIn j f1) = refl
-argument-numbers (MoveOut j h f) = refl
-argument-numbers (MoveIn c j h) = refl
-argument-numbers (Delete j f) = refl
-
+-- none of its heads' numbers is 0
 head-numbers : (k : Request) (b : Buffers) → refusing (headConditions k b) ≡ true
 head-numbers (Register c f) b = refl
 head-numbers (Record c j f h) b = refl
