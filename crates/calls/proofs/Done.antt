@@ -4,9 +4,10 @@ use Prim.Native.Nat.{ℕ, _*_, _≤_, _<_, _%_, _^_}
 use mathlib.Core.Path.{_≡_, refl, sym, ap, ap₂, subst, _∙_}
 use mathlib.Core.Logic.{_≢_}
 use mathlib.Core.List.{List, [], _∷_}
+use mathlib.Core.Option.{Option, none, some}
 use mathlib.Core.Bool.{Bool, true, false, cond}
 use native.Mathlib.Omega.{arith}
-use native.Mathlib.Decide.{decLt}
+use native.Mathlib.Decide.{decLt, ℕ-discrete}
 use lib.ListN.{length, getD}
 use lib.Dec.{eqb}
 use Rattle.formats.specs.Part.{put}
@@ -14,6 +15,7 @@ use Rattle.formats.specs.Half.{keyOf, idOf, wiped}
 use Rattle.formats.specs.Title.{cciOf, titleHalf}
 use Rattle.formats.specs.Rule.{hashOf, ruleHalf, wipedRule}
 use Rattle.formats.specs.Entry.{kindOf, entryFacts}
+use Rattle.formats.specs.Head.{LedgerHead}
 use Rattle.formats.specs.Row.{stateOf, hereRow, withPermits}
 use Rattle.formats.specs.declared.facts.Facts.{Facts}
 use Rattle.formats.specs.declared.facts.Fillers.{Fillers}
@@ -37,13 +39,14 @@ use Rattle.calls.specs.Effect.{afterMove, effect}
 use Rattle.calls.specs.Conditions.{conditions}
 use Rattle.calls.specs.Perform.{refusal, perform, AreBytes}
 use Rattle.calls.specs.Needs.{WipesTitleKey, WipesStiKey}
-use Rattle.calls.specs.Work.{RowIs, Recounted, PermitsBecome, FullEntry, TitleWiped, RuleWiped, Left, WorkIsDone, RegisterByLedger}
+use Rattle.calls.specs.Untouched.{rowWritten}
+use Rattle.calls.specs.Work.{RowIs, Recounted, PermitsBecome, FullEntry, TitleWiped, RuleWiped, Left, WorkIsDone, RegisterByLedger, GoneStays}
 use Rattle.calls.proofs.Counts.{less-most, more-most}
-use Rattle.calls.proofs.Refusals.{carried-out}
-use Rattle.calls.proofs.Named.{a-copy, a-holder, Named, named}
-use Rattle.calls.proofs.Passed.{to-ranges, answered, OnCard, on-card, its-row, row-in}
+use Rattle.calls.proofs.Refusals.{carried-out, unchanged}
+use Rattle.calls.proofs.Named.{Deletable, a-copy, a-holder, Named, named}
+use Rattle.calls.proofs.Passed.{to-ranges, answered, needs-met, OnCard, on-card, its-row, row-in}
 use Rattle.calls.proofs.Slots.{slot-same, slots-kept}
-use Rattle.calls.proofs.Views.{IsRow, state-of-row, row-inside, row-length, row-reads, entry-length, entry-same}
+use Rattle.calls.proofs.Views.{IsRow, state-of-row, row-inside, row-length, row-reads, row-else, entry-length, entry-same}
 use Rattle.calls.proofs.Untouched.{permits-long, rule-long, wiped-title-long, wiped-rule-long, untouched}
 
 -- THE ROW
@@ -295,3 +298,38 @@ register-by-ledger c f ledger titles rules titles′ rules′ = (refl, either-wa
         ≡ (cond x (withRow (c .0) (hereRow f) (buffersOf ledger titles′ rules′)) (buffersOf ledger titles′ rules′)) .ledger
     either-way true = refl
     either-way false = refl
+
+-- A GONE ROW
+
+head-of : (k : Request) (b : Buffers) → Named k b → LedgerHead (b .ledger)
+head-of (Register c f) b n = n .ledger
+head-of (Record c j f h) b n = n .heads .ledger
+head-of (CheckOut c j) b n = n .heads .ledger
+head-of (CheckIn j f1) b n = n .heads .ledger
+head-of (MoveOut j h f) b n = n .heads .ledger
+head-of (MoveIn c j h) b n = n .heads .ledger
+head-of (Delete j f) b n = n .heads .ledger
+
+-- is not the row that a done call writes
+not-gone : (k : Request) (b : Buffers) → Named k b → (d : ℕ) → stateAt b d ≡ Gone → rowWritten k b ≢ some d
+not-gone (Register c f) b n d gone e = let z : _≡_ {A = ℕ} 0 1 = cc in omega arith
+not-gone (Record c j f h) b n d gone e = let z : _≡_ {A = ℕ} 0 1 = cc in omega arith
+not-gone (CheckOut c j) b n d gone e = let z : _≡_ {A = ℕ} 0 1 = cc in omega arith
+not-gone (CheckIn j f1) b n d gone e = let z : _≡_ {A = ℕ} 0 1 = cc in omega arith
+not-gone (MoveOut j h f) b n d gone e = let z : _≡_ {A = ℕ} 0 1 = cc in omega arith
+not-gone (MoveIn c j h) b n d gone e = let z : _≡_ {A = ℕ} 0 1 = cc in omega arith
+not-gone (Delete j f) b n d gone e = by (n .deletable)
+  where
+    row : EntryKind → Option ℕ
+    row k = cond (isFull k) (some (contentAt b (j .0))) none
+
+    by : Deletable (j .0) f b → ⊥
+    by (a-copy k) = let was : row (kindAt b (j .0)) ≡ none = ap row k in let z : _≡_ {A = ℕ} 0 1 = cc in omega arith
+    by (a-holder k away key) = let was : row (kindAt b (j .0)) ≡ some (contentAt b (j .0)) = ap row k in let z : _≡_ {A = ℕ} 0 1 = cc in omega arith
+
+pub gone-stays : GoneStays
+gone-stays k b c gone =
+    elim (ℕ-discrete (perform k b .answer) 0) [
+      | yes done ↦ let n = needs-met k b done in row-else (untouched k b .rows) (head-of k b n) c (not-gone k b n c gone) ∙ gone
+      | no refused ↦ ap (λ (x : Buffers). stateAt x c) (unchanged k b refused) ∙ gone
+    ]

@@ -153,3 +153,7 @@ RegisterByLedger =
     (c : ContentId) (f : Facts) (ledger titles rules titles′ rules′ : List ℕ)
     → (perform (Register c f) (buffersOf ledger titles rules) .answer ≡ perform (Register c f) (buffersOf ledger titles′ rules′) .answer)
     × (perform (Register c f) (buffersOf ledger titles rules) .buffers .ledger ≡ perform (Register c f) (buffersOf ledger titles′ rules′) .buffers .ledger)
+
+-- "A gone row is not used again.": whatever the call, done or refused, it stays gone
+abbrev pub GoneStays : Type 0
+GoneStays = (k : Request) (b : Buffers) (c : ℕ) → stateAt b c ≡ Gone → stateAt (perform k b .buffers) c ≡ Gone

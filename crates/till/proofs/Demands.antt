@@ -20,7 +20,7 @@ use Rattle.calls.specs.Requests.{kindCondition, writingConditions}
 use Rattle.calls.proofs.Refusals.{refused-first}
 use Rattle.calls.proofs.InBounds.{demand-1-calls}
 use Rattle.calls.proofs.Requests.{kind-tested, writing-numbers, writing-refuses, writing-answer, writing-left, demand-1-requests}
-use Rattle.calls.proofs.Done.{work-is-done, register-by-ledger}
+use Rattle.calls.proofs.Done.{work-is-done, register-by-ledger, gone-stays}
 use Rattle.calls.proofs.Fresh.{rows-by-number, fresh-is-ready}
 use Rattle.calls.proofs.Examples.{ten-examples}
 use Rattle.calls.proofs.SampleRun.{sample-run, every-call-done}
@@ -83,6 +83,7 @@ demands =
             fresh = fresh-is-ready;
             rows = rows-by-number;
             register-by-ledger = register-by-ledger;
+            gone-stays = gone-stays;
             tables = demand-1-tables;
             requests = demand-1-requests;
             numbers = number-refused;

@@ -14,7 +14,7 @@ use Rattle.requests.specs.Forms.{GroupsOfSeven, NumberForm, NumberRefused, Requ
 use Rattle.calls.specs.Refusal.{RefusedFirst}
 use Rattle.calls.specs.Perform.{Demand1Calls}
 use Rattle.calls.specs.Requests.{kindCondition, writingConditions, valuesNumbers, Demand1Requests}
-use Rattle.calls.specs.Work.{WorkIsDone, RegisterByLedger}
+use Rattle.calls.specs.Work.{WorkIsDone, RegisterByLedger, GoneStays}
 use Rattle.calls.specs.Fresh.{RowsByNumber, FreshIsReady}
 use Rattle.calls.specs.Examples.{TenExamples}
 use Rattle.calls.specs.SampleRun.{SampleRun, EveryCallDone}
@@ -44,6 +44,7 @@ pub record Demand1 : Type 0 where
   pub fresh : FreshIsReady
   pub rows : RowsByNumber
   pub register-by-ledger : RegisterByLedger
+  pub gone-stays : GoneStays
   -- formatting and tally
   pub tables : Demand1Tables
   -- requests that are read and written, and where the bytes are no number
