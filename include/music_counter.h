@@ -1,5 +1,5 @@
 /*
- * The music counter: paid music titles on a shop's ledger and on SD-Audio cards.
+ * The music counter: paid music titles, and pictures (cover sheets), on a shop's ledger and on SD-Audio cards.
  *
  * A title lives in one place, its holder: a row of the shop's ledger or a full entry of the card. Its permits say how many
  * loan copies may be out, its move rights how often it may move; 15 means unlimited in both. Seven calls change a title,
@@ -24,6 +24,21 @@
  * deleted. A damaged row is in no state. An entry is free; a copy, lent from a row; full, the holder of its title; or torn,
  * where its halves do not fit together. No call takes a torn entry.
  *
+ * PAIRS
+ *
+ * A card's title table and rule table make a pair: COUNTER_AUDIO for music titles, with the identifiers "A1" and "M1" in
+ * their heads, or COUNTER_PICTURE for picture titles, with "P1" in both. All else is laid out alike, and the same functions
+ * serve both: each that is lent a card takes the pair as its first parameter, a bool, of which no value is wrong. A table of
+ * the other pair has a wrong head: 8 for the title table, 9 for the rule table, in the order of tests. Formatting a card
+ * looks at no head, and writes one of the pair that it is given.
+ *
+ * A picture has no track information. Its STI key is a random number below 2^56 that the secure module gives; the counter
+ * stores it like any STI key, and there is nothing to compute. A picture call answers 16 for f1 only: an f2 that is the
+ * stored number is written over it like any other.
+ *
+ * A picture pair has a ledger of its own. A ledger has no mark of the pair that it is for, so no call can refuse the wrong
+ * one: keep the two apart. Requests have no mark of it either.
+ *
  * WHAT A CALLER MUST KEEP
  *
  * - Each pointer points to as many bytes as its length says, readable and (where it is not const) writable. No pointer is
@@ -31,6 +46,7 @@
  * - The buffers of one call do not overlap, nor do the places for the numbers that it writes, with them or with each other.
  * - Nobody else writes to the buffers while a call runs, and nobody reads them while a call runs that may write them. Calls
  *   on different buffers may run at the same time: the library keeps nothing between calls.
+ * - Music and pictures have a ledger each, and every call that is lent a card names the pair that its ledger is for.
  *
  * Nothing else has to be tested before a call. Wrong lengths, damaged tables and arguments out of range, up to 2^64 - 1,
  * are refused.
@@ -54,12 +70,23 @@
 #ifndef MUSIC_COUNTER_H
 #define MUSIC_COUNTER_H
 
+#include <stdbool.h>
 #include <stddef.h>
 #include <stdint.h>
 
 #ifdef __cplusplus
 extern "C" {
 #endif
+
+/*
+ * The interface that this header declares: 1 more with each release that changes a declaration. The linker does not compare
+ * parameters, so compile a till anew with the header of its library.
+ */
+#define COUNTER_INTERFACE 2
+
+/* The two pairs of tables, for `bool pair`. */
+#define COUNTER_AUDIO false
+#define COUNTER_PICTURE true
 
 /* Sizes in bytes. */
 #define COUNTER_TITLES_SIZE 16000
@@ -128,12 +155,13 @@ static inline const char *counter_text(uint64_t number)
 uint64_t counter_format_ledger(uint8_t *ledger, size_t ledger_len, uint64_t rows, uint16_t application);
 
 /*
- * Writes the two tables of a fresh card for an application number. Looks at no byte of the buffers.
+ * Writes the two tables of a fresh card, audio or picture, for an application number. Looks at no byte of the buffers.
  *
  * Answers 8 where titles_len is not COUNTER_TITLES_SIZE; 9 where rules_len is not COUNTER_RULES_SIZE.
  * Done: all bytes of both tables are written: the heads, and every entry free.
  */
-uint64_t counter_format_card(uint8_t *titles, size_t titles_len, uint8_t *rules, size_t rules_len, uint16_t application);
+uint64_t counter_format_card(bool pair, uint8_t *titles, size_t titles_len, uint8_t *rules, size_t rules_len,
+                             uint16_t application);
 
 /*
  * Registers title `content` with its facts in the ledger.
@@ -150,7 +178,7 @@ uint64_t counter_register(uint8_t *ledger, size_t ledger_len, uint64_t content, 
  * Answers 4, 5, 6, 7, 8, 9; 10 where the entry is not free; 11 where the row is above R or not empty.
  * Done: the row is away, and the entry is full with the facts and the hash.
  */
-uint64_t counter_record(uint8_t *ledger, size_t ledger_len, uint8_t *titles, size_t titles_len, uint8_t *rules,
+uint64_t counter_record(bool pair, uint8_t *ledger, size_t ledger_len, uint8_t *titles, size_t titles_len, uint8_t *rules,
                         size_t rules_len, uint64_t content, uint64_t entry, uint64_t cci, uint64_t trigger, uint64_t rights,
                         uint64_t permits, uint64_t title_key, uint64_t sti_key, uint64_t hash);
 
@@ -162,8 +190,8 @@ uint64_t counter_record(uint8_t *ledger, size_t ledger_len, uint8_t *titles, siz
  * Done: the entry is a copy, with the row's CCI and title key; the row's permits are one less, or 15 as before. Of the row
  * no other byte changes, and the rule table is only read.
  */
-uint64_t counter_check_out(uint8_t *ledger, size_t ledger_len, uint8_t *titles, size_t titles_len, const uint8_t *rules,
-                           size_t rules_len, uint64_t content, uint64_t entry);
+uint64_t counter_check_out(bool pair, uint8_t *ledger, size_t ledger_len, uint8_t *titles, size_t titles_len,
+                           const uint8_t *rules, size_t rules_len, uint64_t content, uint64_t entry);
 
 /*
  * Takes a copy back from an entry of the card. The title is the one whose content ID the entry has.
@@ -173,18 +201,18 @@ uint64_t counter_check_out(uint8_t *ledger, size_t ledger_len, uint8_t *titles, 
  * Done: the title half is wiped with f1; the row's permits are one more, or 15 as before. Of the row no other byte changes,
  * and the rule table is only read.
  */
-uint64_t counter_check_in(uint8_t *ledger, size_t ledger_len, uint8_t *titles, size_t titles_len, const uint8_t *rules,
-                          size_t rules_len, uint64_t entry, uint64_t f1);
+uint64_t counter_check_in(bool pair, uint8_t *ledger, size_t ledger_len, uint8_t *titles, size_t titles_len,
+                          const uint8_t *rules, size_t rules_len, uint64_t entry, uint64_t f1);
 
 /*
  * Moves the title of a full entry out of the card, into its row of the ledger.
  *
  * Answers 5, 7, 8, 9; 10 where the entry is not full; 11 where its row is above R or not away; 12 where the entry's trigger
- * is 1 or its rights are 0; 13 where hash is not the entry's C_HASH; 16 where f1 modulo 2^56 is the entry's title key or
- * f2 modulo 2^56 its STI key.
+ * is 1 or its rights are 0; 13 where hash is not the entry's C_HASH; 16 where f1 modulo 2^56 is the entry's title key or,
+ * in an audio call, f2 modulo 2^56 its STI key.
  * Done: the row is here with the entry's facts, rights one less, or 15 as before; both halves are wiped.
  */
-uint64_t counter_move_out(uint8_t *ledger, size_t ledger_len, uint8_t *titles, size_t titles_len, uint8_t *rules,
+uint64_t counter_move_out(bool pair, uint8_t *ledger, size_t ledger_len, uint8_t *titles, size_t titles_len, uint8_t *rules,
                           size_t rules_len, uint64_t entry, uint64_t hash, uint64_t f1, uint64_t f2, uint64_t f3,
                           uint64_t f4);
 
@@ -195,19 +223,19 @@ uint64_t counter_move_out(uint8_t *ledger, size_t ledger_len, uint8_t *titles, s
  * or its rights are 0; 14 where a copy of the title is on the card.
  * Done: the entry is full with the row's facts, rights one less, or 15 as before, and the hash; the row is away.
  */
-uint64_t counter_move_in(uint8_t *ledger, size_t ledger_len, uint8_t *titles, size_t titles_len, uint8_t *rules,
+uint64_t counter_move_in(bool pair, uint8_t *ledger, size_t ledger_len, uint8_t *titles, size_t titles_len, uint8_t *rules,
                          size_t rules_len, uint64_t content, uint64_t entry, uint64_t hash);
 
 /*
  * Deletes what an entry of the card has: a copy, or a full title.
  *
  * Answers 5, 7, 8, 9; 10 where the entry is neither a copy nor full; 11 where it is full and its row is above R or not away;
- * 16 where f1 modulo 2^56 is the entry's title key or, in a full entry, f2 modulo 2^56 its STI key.
+ * 16 where f1 modulo 2^56 is the entry's title key or, in a full entry and an audio call, f2 modulo 2^56 its STI key.
  * Done, a copy: the title half is wiped with f1. The row is neither tested nor changed, nor is the rule table; f2 to f4 are
  * not used.
  * Done, a full entry: both halves are wiped, and the row is gone: it is not used again.
  */
-uint64_t counter_delete(uint8_t *ledger, size_t ledger_len, uint8_t *titles, size_t titles_len, uint8_t *rules,
+uint64_t counter_delete(bool pair, uint8_t *ledger, size_t ledger_len, uint8_t *titles, size_t titles_len, uint8_t *rules,
                         size_t rules_len, uint64_t entry, uint64_t f1, uint64_t f2, uint64_t f3, uint64_t f4);
 
 /*
@@ -216,14 +244,15 @@ uint64_t counter_delete(uint8_t *ledger, size_t ledger_len, uint8_t *titles, siz
  * Answers 4, 8, 9. There is no ledger here, so 9 does not ask whose application the card is of.
  * Done: *copies is their number, 0 to 999. On a refusal *copies keeps its value. The tables are only read.
  */
-uint64_t counter_tally(const uint8_t *titles, size_t titles_len, const uint8_t *rules, size_t rules_len, uint64_t content,
-                       uint64_t *copies);
+uint64_t counter_tally(bool pair, const uint8_t *titles, size_t titles_len, const uint8_t *rules, size_t rules_len,
+                       uint64_t content, uint64_t *copies);
 
 /*
  * REQUESTS
  *
  * A request is one of the seven calls as bytes, for a log or a line: its kind and its arguments, each a number in groups of
- * seven bits, the low group first, with the top bit set in all bytes but the last. Every request has one written form.
+ * seven bits, the low group first, with the top bit set in all bytes but the last. Every request has one written form. It
+ * does not say of which pair the call is; a shop that logs both keeps two logs.
  *
  *   kind           arguments
  *   1 register     content, cci, trigger, rights, permits, title_key, sti_key

@@ -14,7 +14,7 @@
 #include "scenes.h"
 
 #define ROUNDS 101
-#define RANDOM_SHOPS 3000
+#define RANDOM_SHOPS 10000
 
 static const struct counter *const counters[2] = {&proved, &plain};
 
@@ -237,7 +237,7 @@ int main(int count, char **words)
     printf("\nA call that is timed in many entries finds what it needs there: on a card of the other sort these are every second\n"
            "entry, and the rest is as the card is named (record and check-out need free entries, check-in and delete copy need\n"
            "copies, move out and delete title full ones). A move in has entry 999 free on a full card; its row and that entry\n"
-           "are put back between calls, within the time.\n");
+           "are put back between calls, within the time. All cards are audio cards.\n");
     show_section("operation", "Operations, ns per call", 1);
     show_section("refusal", "Refusals, ns per call", 1);
     show_section("scan", "Tallies, ns per entry scanned", COUNTER_LAST_ENTRY);

@@ -48,6 +48,10 @@ struct state {
     size_t ledger_len, titles_len, rules_len;
 };
 
+#define L state->shop.ledger, state->ledger_len
+#define T state->shop.titles, state->titles_len
+#define R state->shop.rules, state->rules_len
+
 #define TITLES_HERE 6
 
 static void store(uint8_t *at, uint64_t value, size_t bytes)
@@ -106,7 +110,27 @@ static void damage(uint8_t *buffer, size_t *length, size_t head)
         buffer[below(head)] ^= (uint8_t)(1u << below(8));
 }
 
-static void random_state_of(struct state *state)
+/* An identifier that may be the other pair's, or the other table's. */
+static void random_identifier(uint8_t *table)
+{
+    static const char *const identifiers[] = {"A1", "M1", "P1"};
+
+    memcpy(table, identifiers[below(3)], 2);
+}
+
+/*
+ * Frees an entry, empties a row and records a title there. Of full entries whose rows are away chance alone makes few, and
+ * the fillers are tested after all else.
+ */
+static void hold(struct state *state, bool pair, unsigned entry, unsigned content)
+{
+    state->shop.titles[16 * entry + 8] &= 0x7f;
+    state->shop.rules[32 * entry + 8] &= 0x7f;
+    state->shop.ledger[24 * content] = 0;
+    proved.record(pair, L, T, R, content, entry, 2, 0, below(16), below(16), below(4), below(4), below(2));
+}
+
+static void random_state_of(struct state *state, bool pair)
 {
     struct shop *shop = &state->shop;
     uint64_t rows = one_in(4) ? COUNTER_MOST_ROWS : 1 + below(TITLES_HERE + 2);
@@ -116,12 +140,19 @@ static void random_state_of(struct state *state)
     state->titles_len = COUNTER_TITLES_SIZE;
     state->rules_len = COUNTER_RULES_SIZE;
     proved.format_ledger(shop->ledger, state->ledger_len, rows, 7);
-    proved.format_card(TITLES(shop), RULES(shop), 7);
+    proved.format_card(pair, TITLES(shop), RULES(shop), 7);
     for (unsigned content = 1; content <= rows; content++)
         random_row(shop, content);
     for (unsigned i = 0; i < 24; i++)
         random_entry(shop, i < 8 ? i + 1 : (unsigned)(1 + below(COUNTER_LAST_ENTRY)));
     random_entry(shop, COUNTER_LAST_ENTRY);
+    for (unsigned entry = 1; entry <= 8; entry++)
+        if (one_in(8))
+            hold(state, pair, entry, (unsigned)(1 + below(TITLES_HERE)));
+    if (one_in(8))
+        random_identifier(shop->titles);
+    if (one_in(8))
+        random_identifier(shop->rules);
     if (one_in(4))
         damage(shop->ledger, &state->ledger_len, 24);
     if (one_in(4))
@@ -135,15 +166,20 @@ static void random_state_of(struct state *state)
 /* A call: which one, and its arguments. */
 struct call {
     unsigned operation;
+    bool pair;
     uint64_t content, entry, cci, trigger, rights, permits, title_key, sti_key, hash, f[4];
 };
 
-static const char *const operations[] = {"format ledger", "format card", "register", "record",  "check-out",
-                                         "check-in",      "move out",    "move in",  "delete", "tally"};
+static const struct {
+    const char *name;
+    bool has_pair;
+} operations[] = {{"format ledger", false}, {"format card", true}, {"register", false}, {"record", true}, {"check-out", true},
+                  {"check-in", true},       {"move out", true},    {"move in", true},   {"delete", true}, {"tally", true}};
 
-static struct call random_call(void)
+/* A call for a card that was formatted for `pair`: mostly of that pair. */
+static struct call random_call(bool pair)
 {
-    struct call call = {0};
+    struct call call = {.pair = one_in(8) ? !pair : pair};
 
     /* Formatting is rare: it leaves nothing to work on. */
     call.operation = one_in(24) ? (unsigned)below(2) : (unsigned)(2 + below(8));
@@ -161,27 +197,25 @@ static struct call random_call(void)
     return call;
 }
 
-#define L state->shop.ledger, state->ledger_len
-#define T state->shop.titles, state->titles_len
-#define R state->shop.rules, state->rules_len
-
 static uint64_t perform(const struct counter *counter, struct state *state, const struct call *call, uint64_t *copies)
 {
+    bool pair = call->pair;
+
     switch (call->operation) {
     case 0: return counter->format_ledger(L, call->content, (uint16_t)call->hash);
-    case 1: return counter->format_card(T, R, (uint16_t)call->hash);
+    case 1: return counter->format_card(pair, T, R, (uint16_t)call->hash);
     case 2:
         return counter->register_title(L, call->content, call->cci, call->trigger, call->rights, call->permits,
                                        call->title_key, call->sti_key);
     case 3:
-        return counter->record(L, T, R, call->content, call->entry, call->cci, call->trigger, call->rights, call->permits,
-                               call->title_key, call->sti_key, call->hash);
-    case 4: return counter->check_out(L, T, R, call->content, call->entry);
-    case 5: return counter->check_in(L, T, R, call->entry, call->f[0]);
-    case 6: return counter->move_out(L, T, R, call->entry, call->hash, call->f[0], call->f[1], call->f[2], call->f[3]);
-    case 7: return counter->move_in(L, T, R, call->content, call->entry, call->hash);
-    case 8: return counter->delete_entry(L, T, R, call->entry, call->f[0], call->f[1], call->f[2], call->f[3]);
-    default: return counter->tally(T, R, call->content, copies);
+        return counter->record(pair, L, T, R, call->content, call->entry, call->cci, call->trigger, call->rights,
+                               call->permits, call->title_key, call->sti_key, call->hash);
+    case 4: return counter->check_out(pair, L, T, R, call->content, call->entry);
+    case 5: return counter->check_in(pair, L, T, R, call->entry, call->f[0]);
+    case 6: return counter->move_out(pair, L, T, R, call->entry, call->hash, call->f[0], call->f[1], call->f[2], call->f[3]);
+    case 7: return counter->move_in(pair, L, T, R, call->content, call->entry, call->hash);
+    case 8: return counter->delete_entry(pair, L, T, R, call->entry, call->f[0], call->f[1], call->f[2], call->f[3]);
+    default: return counter->tally(pair, T, R, call->content, copies);
     }
 }
 
@@ -191,21 +225,23 @@ static void differ(const char *what, uint64_t proved_answer, uint64_t plain_answ
     exit(1);
 }
 
-static void check_calls(uint64_t seen[10][17])
+/* Counts a call's answer with those of its operation and, where it takes one, its pair. */
+static void check_calls(uint64_t seen[10][2][17])
 {
     static struct state one, other;
+    bool pair = one_in(2) ? COUNTER_PICTURE : COUNTER_AUDIO;
 
-    random_state_of(&one);
+    random_state_of(&one, pair);
     other = one;
     for (unsigned i = 0; i < CALLS_ON_A_SHOP; i++) {
-        struct call call = random_call();
+        struct call call = random_call(pair);
         uint64_t one_copies = 77, other_copies = 77;
         uint64_t one_answer = perform(&proved, &one, &call, &one_copies);
         uint64_t other_answer = perform(&plain, &other, &call, &other_copies);
 
         if (one_answer != other_answer || one_copies != other_copies || memcmp(&one, &other, sizeof one) != 0)
-            differ(operations[call.operation], one_answer, other_answer);
-        seen[call.operation][one_answer]++;
+            differ(operations[call.operation].name, one_answer, other_answer);
+        seen[call.operation][operations[call.operation].has_pair && call.pair][one_answer]++;
     }
 }
 
@@ -256,9 +292,9 @@ static void check_writing(uint64_t seen[17])
 
 /* ---------------------------------------------------------------- all of it */
 
-static void show(const char *name, const uint64_t seen[17])
+static void show(const char *name, const char *pair, const uint64_t seen[17])
 {
-    printf("  %-18s", name);
+    printf("  %-17s%-8s", name, pair);
     for (unsigned answer = 0; answer <= 16; answer++)
         if (seen[answer] != 0)
             printf(" %u: %" PRIu64, answer, seen[answer]);
@@ -267,18 +303,21 @@ static void show(const char *name, const uint64_t seen[17])
 
 void check_random(unsigned shops)
 {
-    static uint64_t seen[12][17];
+    static uint64_t seen[10][2][17], seen_reading[17], seen_writing[17];
 
     for (unsigned i = 0; i < shops; i++) {
         check_calls(seen);
         for (unsigned j = 0; j < CALLS_ON_A_SHOP; j++) {
-            check_reading(seen[10]);
-            check_writing(seen[11]);
+            check_reading(seen_reading);
+            check_writing(seen_writing);
         }
     }
     printf("Checked on random input, the same answers and bytes from both. How often each answer came:\n");
-    for (unsigned i = 0; i < 10; i++)
-        show(operations[i], seen[i]);
-    show("reading requests", seen[10]);
-    show("writing requests", seen[11]);
+    for (unsigned i = 0; i < 10; i++) {
+        show(operations[i].name, operations[i].has_pair ? "audio" : "", seen[i][COUNTER_AUDIO]);
+        if (operations[i].has_pair)
+            show(operations[i].name, "picture", seen[i][COUNTER_PICTURE]);
+    }
+    show("reading requests", "", seen_reading);
+    show("writing requests", "", seen_writing);
 }

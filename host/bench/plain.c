@@ -79,33 +79,41 @@ static inline uint64_t rows_of(const uint8_t *ledger, size_t length)
     return is_numbered(rows) && length == COUNTER_LEDGER_SIZE(rows) ? rows : 0;
 }
 
-/* Eight bytes at a time, those that are ignored masked out. */
-static inline int is_title_table(const uint8_t *titles, size_t length)
+/*
+ * The identifiers in the first two of a head's eight bytes, by the pair: "A1" and "M1", or "P1" in both tables. To load one
+ * takes less time than to choose between two constants.
+ */
+static const uint64_t titles_identifier[] = {[COUNTER_AUDIO] = 0x4131000000000000, [COUNTER_PICTURE] = 0x5031000000000000};
+static const uint64_t rules_identifier[] = {[COUNTER_AUDIO] = 0x4d31000000000000, [COUNTER_PICTURE] = 0x5031000000000000};
+
+/* Eight bytes at a time, those that are ignored masked out. The right identifier leaves 0 in its place. */
+static inline int is_title_table(bool pair, const uint8_t *titles, size_t length)
 {
     uint64_t front;
 
     if (length != COUNTER_TITLES_SIZE)
         return 0;
-    front = load64(titles) & 0xffff00ffffffffff;
-    return (front == 0x4131000900003e80 || front == 0x4131001000003e80) &&
+    front = (load64(titles) & 0xffff00ffffffffff) ^ titles_identifier[pair];
+    return (front == 0x0000000900003e80 || front == 0x0000001000003e80) &&
            (load64(titles + 8) & 0xffffffffffff0000) == 0x000003e710010000;
 }
 
-static inline int is_rule_table(const uint8_t *rules, size_t length)
+static inline int is_rule_table(bool pair, const uint8_t *rules, size_t length)
 {
-    return length == COUNTER_RULES_SIZE && (load64(rules) & 0xffff0000ffffffff) == 0x4d31000000007d00 && rules[3] >= 0x11 &&
+    return length == COUNTER_RULES_SIZE &&
+           ((load64(rules) & 0xffff0000ffffffff) ^ rules_identifier[pair]) == 0x0000000000007d00 && rules[3] >= 0x11 &&
            (load64(rules + 8) & 0x0000ffffffff0000) == 0x000003e720020000;
 }
 
 /* What is wrong with a ledger and a card, or 0. */
-static inline uint64_t wrong_buffers(const uint8_t *ledger, size_t ledger_len, const uint8_t *titles, size_t titles_len,
-                                     const uint8_t *rules, size_t rules_len)
+static inline uint64_t wrong_buffers(bool pair, const uint8_t *ledger, size_t ledger_len, const uint8_t *titles,
+                                     size_t titles_len, const uint8_t *rules, size_t rules_len)
 {
     if (rows_of(ledger, ledger_len) == 0)
         return COUNTER_LEDGER;
-    if (!is_title_table(titles, titles_len))
+    if (!is_title_table(pair, titles, titles_len))
         return COUNTER_TITLES;
-    if (!is_rule_table(rules, rules_len) || load16(rules + 8) != load16(ledger))
+    if (!is_rule_table(pair, rules, rules_len) || load16(rules + 8) != load16(ledger))
         return COUNTER_RULES;
     return COUNTER_DONE;
 }
@@ -189,6 +197,12 @@ static inline int filler_is_key(const uint8_t *half, uint64_t filler)
     return (filler & KEY_BITS) == key_of(half);
 }
 
+/* A picture's STI key may stay in place. A filler is seldom the key, so the pair, which is asked last, is seldom asked. */
+static inline int leaves_sti_key(bool pair, const uint8_t *rule, uint64_t f2)
+{
+    return filler_is_key(rule, f2) && pair == COUNTER_AUDIO;
+}
+
 static inline struct facts facts_of_entry(const uint8_t *title, const uint8_t *rule)
 {
     struct facts facts = {cci_of(title), rule[16] >> 7, rule[17] >> 4, rule[17] & 15, key_of(title), key_of(rule)};
@@ -241,17 +255,18 @@ uint64_t plain_format_ledger(uint8_t *ledger, size_t ledger_len, uint64_t rows, 
     return COUNTER_DONE;
 }
 
-uint64_t plain_format_card(uint8_t *titles, size_t titles_len, uint8_t *rules, size_t rules_len, uint16_t application)
+uint64_t plain_format_card(bool pair, uint8_t *titles, size_t titles_len, uint8_t *rules, size_t rules_len,
+                           uint16_t application)
 {
     if (titles_len != COUNTER_TITLES_SIZE)
         return COUNTER_TITLES;
     if (rules_len != COUNTER_RULES_SIZE)
         return COUNTER_RULES;
     memset(titles, 0, COUNTER_TITLES_SIZE);
-    store64(titles, 0x4131001000003e80);
+    store64(titles, titles_identifier[pair] | 0x0000001000003e80);
     store64(titles + 8, 0x000003e710010000);
     memset(rules, 0, COUNTER_RULES_SIZE);
-    store64(rules, 0x4d31001100007d00);
+    store64(rules, rules_identifier[pair] | 0x0000001100007d00);
     store64(rules + 8, (uint64_t)application << 48 | 0x000003e720020000);
     return COUNTER_DONE;
 }
@@ -292,17 +307,17 @@ static int has_copy(const uint8_t *titles, const uint8_t *rules, uint64_t conten
     return 0;
 }
 
-uint64_t plain_tally(const uint8_t *titles, size_t titles_len, const uint8_t *rules, size_t rules_len, uint64_t content,
-                     uint64_t *copies)
+uint64_t plain_tally(bool pair, const uint8_t *titles, size_t titles_len, const uint8_t *rules, size_t rules_len,
+                     uint64_t content, uint64_t *copies)
 {
     struct sought sought = seek(content);
     uint64_t count = 0;
 
     if (!is_numbered(content))
         return COUNTER_CONTENT_ID;
-    if (!is_title_table(titles, titles_len))
+    if (!is_title_table(pair, titles, titles_len))
         return COUNTER_TITLES;
-    if (!is_rule_table(rules, rules_len))
+    if (!is_rule_table(pair, rules, rules_len))
         return COUNTER_RULES;
     for (size_t entry = 1; entry <= COUNTER_LAST_ENTRY; entry++)
         if (is_copy(titles, rules, entry, sought))
@@ -334,7 +349,7 @@ uint64_t plain_register(uint8_t *ledger, size_t ledger_len, uint64_t content, ui
     return COUNTER_DONE;
 }
 
-uint64_t plain_record(uint8_t *ledger, size_t ledger_len, uint8_t *titles, size_t titles_len, uint8_t *rules,
+uint64_t plain_record(bool pair, uint8_t *ledger, size_t ledger_len, uint8_t *titles, size_t titles_len, uint8_t *rules,
                       size_t rules_len, uint64_t content, uint64_t entry, uint64_t cci, uint64_t trigger, uint64_t rights,
                       uint64_t permits, uint64_t title_key, uint64_t sti_key, uint64_t hash)
 {
@@ -348,7 +363,7 @@ uint64_t plain_record(uint8_t *ledger, size_t ledger_len, uint8_t *titles, size_
         return COUNTER_ENTRY_NUMBER;
     if (!are_facts(&facts))
         return COUNTER_FACTS;
-    wrong = wrong_buffers(ledger, ledger_len, titles, titles_len, rules, rules_len);
+    wrong = wrong_buffers(pair, ledger, ledger_len, titles, titles_len, rules, rules_len);
     if (wrong)
         return wrong;
     row = ledger + ROW * content;
@@ -364,8 +379,8 @@ uint64_t plain_record(uint8_t *ledger, size_t ledger_len, uint8_t *titles, size_
     return COUNTER_DONE;
 }
 
-uint64_t plain_check_out(uint8_t *ledger, size_t ledger_len, uint8_t *titles, size_t titles_len, const uint8_t *rules,
-                         size_t rules_len, uint64_t content, uint64_t entry)
+uint64_t plain_check_out(bool pair, uint8_t *ledger, size_t ledger_len, uint8_t *titles, size_t titles_len,
+                         const uint8_t *rules, size_t rules_len, uint64_t content, uint64_t entry)
 {
     uint8_t *row, *title;
     uint64_t wrong;
@@ -374,7 +389,7 @@ uint64_t plain_check_out(uint8_t *ledger, size_t ledger_len, uint8_t *titles, si
         return COUNTER_CONTENT_ID;
     if (!is_numbered(entry))
         return COUNTER_ENTRY_NUMBER;
-    wrong = wrong_buffers(ledger, ledger_len, titles, titles_len, rules, rules_len);
+    wrong = wrong_buffers(pair, ledger, ledger_len, titles, titles_len, rules, rules_len);
     if (wrong)
         return wrong;
     row = ledger + ROW * content;
@@ -390,15 +405,15 @@ uint64_t plain_check_out(uint8_t *ledger, size_t ledger_len, uint8_t *titles, si
     return COUNTER_DONE;
 }
 
-uint64_t plain_check_in(uint8_t *ledger, size_t ledger_len, uint8_t *titles, size_t titles_len, const uint8_t *rules,
-                        size_t rules_len, uint64_t entry, uint64_t f1)
+uint64_t plain_check_in(bool pair, uint8_t *ledger, size_t ledger_len, uint8_t *titles, size_t titles_len,
+                        const uint8_t *rules, size_t rules_len, uint64_t entry, uint64_t f1)
 {
     uint8_t *row, *title;
     uint64_t wrong, content;
 
     if (!is_numbered(entry))
         return COUNTER_ENTRY_NUMBER;
-    wrong = wrong_buffers(ledger, ledger_len, titles, titles_len, rules, rules_len);
+    wrong = wrong_buffers(pair, ledger, ledger_len, titles, titles_len, rules, rules_len);
     if (wrong)
         return wrong;
     title = titles + TITLE_HALF * entry;
@@ -418,7 +433,7 @@ uint64_t plain_check_in(uint8_t *ledger, size_t ledger_len, uint8_t *titles, siz
     return COUNTER_DONE;
 }
 
-uint64_t plain_move_out(uint8_t *ledger, size_t ledger_len, uint8_t *titles, size_t titles_len, uint8_t *rules,
+uint64_t plain_move_out(bool pair, uint8_t *ledger, size_t ledger_len, uint8_t *titles, size_t titles_len, uint8_t *rules,
                         size_t rules_len, uint64_t entry, uint64_t hash, uint64_t f1, uint64_t f2, uint64_t f3,
                         uint64_t f4)
 {
@@ -428,7 +443,7 @@ uint64_t plain_move_out(uint8_t *ledger, size_t ledger_len, uint8_t *titles, siz
 
     if (!is_numbered(entry))
         return COUNTER_ENTRY_NUMBER;
-    wrong = wrong_buffers(ledger, ledger_len, titles, titles_len, rules, rules_len);
+    wrong = wrong_buffers(pair, ledger, ledger_len, titles, titles_len, rules, rules_len);
     if (wrong)
         return wrong;
     title = titles + TITLE_HALF * entry;
@@ -444,7 +459,7 @@ uint64_t plain_move_out(uint8_t *ledger, size_t ledger_len, uint8_t *titles, siz
         return COUNTER_NOTHING_LEFT;
     if (hash != load64(rule + 18))
         return COUNTER_HASH;
-    if (filler_is_key(title, f1) || filler_is_key(rule, f2))
+    if (filler_is_key(title, f1) || leaves_sti_key(pair, rule, f2))
         return COUNTER_FILLER;
     facts.rights = one_less(facts.rights);
     write_here(row, &facts);
@@ -453,7 +468,7 @@ uint64_t plain_move_out(uint8_t *ledger, size_t ledger_len, uint8_t *titles, siz
     return COUNTER_DONE;
 }
 
-uint64_t plain_move_in(uint8_t *ledger, size_t ledger_len, uint8_t *titles, size_t titles_len, uint8_t *rules,
+uint64_t plain_move_in(bool pair, uint8_t *ledger, size_t ledger_len, uint8_t *titles, size_t titles_len, uint8_t *rules,
                        size_t rules_len, uint64_t content, uint64_t entry, uint64_t hash)
 {
     uint8_t *row, *title, *rule;
@@ -464,7 +479,7 @@ uint64_t plain_move_in(uint8_t *ledger, size_t ledger_len, uint8_t *titles, size
         return COUNTER_CONTENT_ID;
     if (!is_numbered(entry))
         return COUNTER_ENTRY_NUMBER;
-    wrong = wrong_buffers(ledger, ledger_len, titles, titles_len, rules, rules_len);
+    wrong = wrong_buffers(pair, ledger, ledger_len, titles, titles_len, rules, rules_len);
     if (wrong)
         return wrong;
     row = ledger + ROW * content;
@@ -486,7 +501,7 @@ uint64_t plain_move_in(uint8_t *ledger, size_t ledger_len, uint8_t *titles, size
     return COUNTER_DONE;
 }
 
-uint64_t plain_delete(uint8_t *ledger, size_t ledger_len, uint8_t *titles, size_t titles_len, uint8_t *rules,
+uint64_t plain_delete(bool pair, uint8_t *ledger, size_t ledger_len, uint8_t *titles, size_t titles_len, uint8_t *rules,
                       size_t rules_len, uint64_t entry, uint64_t f1, uint64_t f2, uint64_t f3, uint64_t f4)
 {
     uint8_t *row, *title, *rule;
@@ -495,7 +510,7 @@ uint64_t plain_delete(uint8_t *ledger, size_t ledger_len, uint8_t *titles, size_
 
     if (!is_numbered(entry))
         return COUNTER_ENTRY_NUMBER;
-    wrong = wrong_buffers(ledger, ledger_len, titles, titles_len, rules, rules_len);
+    wrong = wrong_buffers(pair, ledger, ledger_len, titles, titles_len, rules, rules_len);
     if (wrong)
         return wrong;
     title = titles + TITLE_HALF * entry;
@@ -507,7 +522,7 @@ uint64_t plain_delete(uint8_t *ledger, size_t ledger_len, uint8_t *titles, size_
     row = ledger + ROW * content;
     if (kind == FULL && (content > load16(ledger + 2) || row[0] != AWAY))
         return COUNTER_STATE_OF_ROW;
-    if (filler_is_key(title, f1) || (kind == FULL && filler_is_key(rule, f2)))
+    if (filler_is_key(title, f1) || (kind == FULL && leaves_sti_key(pair, rule, f2)))
         return COUNTER_FILLER;
     wipe_title(title, f1);
     if (kind == FULL) {

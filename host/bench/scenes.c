@@ -55,17 +55,19 @@ static void must_be_done(uint64_t answer, const char *what)
 void prepare(struct shop *shop, const struct scene *scene)
 {
     must_be_done(counter_format_ledger(LEDGER(shop), COUNTER_MOST_ROWS, APPLICATION), "a ledger");
-    must_be_done(counter_format_card(TITLES(shop), RULES(shop), APPLICATION), "a card");
+    must_be_done(counter_format_card(COUNTER_AUDIO, TITLES(shop), RULES(shop), APPLICATION), "a card");
     must_be_done(counter_register(LEDGER(shop), TITLE, FACTS), "title 1");
     if (scene->lent > TITLE)
         must_be_done(counter_register(LEDGER(shop), scene->lent, FACTS), "the lent title");
     for (EACH(entry, scene->copies))
-        must_be_done(counter_check_out(LEDGER(shop), TITLES(shop), RULES(shop), scene->lent, entry), "a copy");
+        must_be_done(counter_check_out(COUNTER_AUDIO, LEDGER(shop), TITLES(shop), RULES(shop), scene->lent, entry), "a copy");
     for (EACH(entry, scene->full))
-        must_be_done(counter_record(LEDGER(shop), TITLES(shop), RULES(shop), TITLE_OF(entry), entry, FACTS, HASH), "a title");
+        must_be_done(counter_record(COUNTER_AUDIO, LEDGER(shop), TITLES(shop), RULES(shop), TITLE_OF(entry), entry, FACTS,
+                                    HASH),
+                     "a title");
     if (scene->stale)
         for (EACH(entry, scene->copies))
-            must_be_done(counter_check_in(LEDGER(shop), TITLES(shop), RULES(shop), entry, F1), "a stale copy");
+            must_be_done(counter_check_in(COUNTER_AUDIO, LEDGER(shop), TITLES(shop), RULES(shop), entry, F1), "a stale copy");
     if (scene->permits != 0)
         shop->ledger[24 * TITLE + 4] = scene->permits;
 }
@@ -86,7 +88,7 @@ static uint64_t format_cards(const struct counter *counter, struct shop *shop, c
     uint64_t sum = 0;
 
     for (unsigned i = 0; i < scene->calls; i++)
-        sum += counter->format_card(TITLES(shop), RULES(shop), APPLICATION);
+        sum += counter->format_card(COUNTER_AUDIO, TITLES(shop), RULES(shop), APPLICATION);
     return sum;
 }
 
@@ -104,7 +106,7 @@ static uint64_t records(const struct counter *counter, struct shop *shop, const 
     uint64_t sum = 0;
 
     for (EACH(entry, scene->places))
-        sum += counter->record(LEDGER(shop), TITLES(shop), RULES(shop), TITLE_OF(entry), entry, FACTS, HASH);
+        sum += counter->record(COUNTER_AUDIO, LEDGER(shop), TITLES(shop), RULES(shop), TITLE_OF(entry), entry, FACTS, HASH);
     return sum;
 }
 
@@ -113,7 +115,7 @@ static uint64_t check_outs(const struct counter *counter, struct shop *shop, con
     uint64_t sum = 0;
 
     for (EACH(entry, scene->places))
-        sum += counter->check_out(LEDGER(shop), TITLES(shop), RULES(shop), TITLE, entry);
+        sum += counter->check_out(COUNTER_AUDIO, LEDGER(shop), TITLES(shop), RULES(shop), TITLE, entry);
     return sum;
 }
 
@@ -122,7 +124,7 @@ static uint64_t check_ins(const struct counter *counter, struct shop *shop, cons
     uint64_t sum = 0;
 
     for (EACH(entry, scene->places))
-        sum += counter->check_in(LEDGER(shop), TITLES(shop), RULES(shop), entry, F1);
+        sum += counter->check_in(COUNTER_AUDIO, LEDGER(shop), TITLES(shop), RULES(shop), entry, F1);
     return sum;
 }
 
@@ -131,7 +133,7 @@ static uint64_t move_outs(const struct counter *counter, struct shop *shop, cons
     uint64_t sum = 0;
 
     for (EACH(entry, scene->places))
-        sum += counter->move_out(LEDGER(shop), TITLES(shop), RULES(shop), entry, HASH, F1, F2, F3, F4);
+        sum += counter->move_out(COUNTER_AUDIO, LEDGER(shop), TITLES(shop), RULES(shop), entry, HASH, F1, F2, F3, F4);
     return sum;
 }
 
@@ -140,7 +142,7 @@ static uint64_t deletes(const struct counter *counter, struct shop *shop, const 
     uint64_t sum = 0;
 
     for (EACH(entry, scene->places))
-        sum += counter->delete_entry(LEDGER(shop), TITLES(shop), RULES(shop), entry, F1, F2, F3, F4);
+        sum += counter->delete_entry(COUNTER_AUDIO, LEDGER(shop), TITLES(shop), RULES(shop), entry, F1, F2, F3, F4);
     return sum;
 }
 
@@ -158,7 +160,7 @@ static uint64_t move_ins(const struct counter *counter, struct shop *shop, const
     memcpy(old_title, title, sizeof old_title);
     memcpy(old_rule, rule, sizeof old_rule);
     for (unsigned i = 0; i < scene->calls; i++) {
-        sum += counter->move_in(LEDGER(shop), TITLES(shop), RULES(shop), TITLE, LAST, HASH);
+        sum += counter->move_in(COUNTER_AUDIO, LEDGER(shop), TITLES(shop), RULES(shop), TITLE, LAST, HASH);
         memcpy(row, old_row, sizeof old_row);
         memcpy(title, old_title, sizeof old_title);
         memcpy(rule, old_rule, sizeof old_rule);
@@ -171,7 +173,7 @@ static uint64_t refused_move_ins(const struct counter *counter, struct shop *sho
     uint64_t sum = 0;
 
     for (unsigned i = 0; i < scene->calls; i++)
-        sum += counter->move_in(LEDGER(shop), TITLES(shop), RULES(shop), TITLE, LAST, HASH);
+        sum += counter->move_in(COUNTER_AUDIO, LEDGER(shop), TITLES(shop), RULES(shop), TITLE, LAST, HASH);
     return sum;
 }
 
@@ -180,7 +182,7 @@ static uint64_t tallies(const struct counter *counter, struct shop *shop, const 
     uint64_t sum = 0, copies = 0;
 
     for (unsigned i = 0; i < scene->calls; i++)
-        sum += counter->tally(TITLES(shop), RULES(shop), scene->content, &copies);
+        sum += counter->tally(COUNTER_AUDIO, TITLES(shop), RULES(shop), scene->content, &copies);
     return sum;
 }
 

@@ -2,6 +2,7 @@
 #ifndef SCENES_H
 #define SCENES_H
 
+#include <stdbool.h>
 #include <stddef.h>
 #include <stdint.h>
 
@@ -10,18 +11,18 @@
 /* The functions of music_counter.h, of one library or the other. */
 struct counter {
     uint64_t (*format_ledger)(uint8_t *, size_t, uint64_t, uint16_t);
-    uint64_t (*format_card)(uint8_t *, size_t, uint8_t *, size_t, uint16_t);
+    uint64_t (*format_card)(bool, uint8_t *, size_t, uint8_t *, size_t, uint16_t);
     uint64_t (*register_title)(uint8_t *, size_t, uint64_t, uint64_t, uint64_t, uint64_t, uint64_t, uint64_t, uint64_t);
-    uint64_t (*record)(uint8_t *, size_t, uint8_t *, size_t, uint8_t *, size_t, uint64_t, uint64_t, uint64_t, uint64_t,
+    uint64_t (*record)(bool, uint8_t *, size_t, uint8_t *, size_t, uint8_t *, size_t, uint64_t, uint64_t, uint64_t, uint64_t,
                        uint64_t, uint64_t, uint64_t, uint64_t, uint64_t);
-    uint64_t (*check_out)(uint8_t *, size_t, uint8_t *, size_t, const uint8_t *, size_t, uint64_t, uint64_t);
-    uint64_t (*check_in)(uint8_t *, size_t, uint8_t *, size_t, const uint8_t *, size_t, uint64_t, uint64_t);
-    uint64_t (*move_out)(uint8_t *, size_t, uint8_t *, size_t, uint8_t *, size_t, uint64_t, uint64_t, uint64_t, uint64_t,
-                         uint64_t, uint64_t);
-    uint64_t (*move_in)(uint8_t *, size_t, uint8_t *, size_t, uint8_t *, size_t, uint64_t, uint64_t, uint64_t);
-    uint64_t (*delete_entry)(uint8_t *, size_t, uint8_t *, size_t, uint8_t *, size_t, uint64_t, uint64_t, uint64_t,
+    uint64_t (*check_out)(bool, uint8_t *, size_t, uint8_t *, size_t, const uint8_t *, size_t, uint64_t, uint64_t);
+    uint64_t (*check_in)(bool, uint8_t *, size_t, uint8_t *, size_t, const uint8_t *, size_t, uint64_t, uint64_t);
+    uint64_t (*move_out)(bool, uint8_t *, size_t, uint8_t *, size_t, uint8_t *, size_t, uint64_t, uint64_t, uint64_t,
+                         uint64_t, uint64_t, uint64_t);
+    uint64_t (*move_in)(bool, uint8_t *, size_t, uint8_t *, size_t, uint8_t *, size_t, uint64_t, uint64_t, uint64_t);
+    uint64_t (*delete_entry)(bool, uint8_t *, size_t, uint8_t *, size_t, uint8_t *, size_t, uint64_t, uint64_t, uint64_t,
                              uint64_t, uint64_t);
-    uint64_t (*tally)(const uint8_t *, size_t, const uint8_t *, size_t, uint64_t, uint64_t *);
+    uint64_t (*tally)(bool, const uint8_t *, size_t, const uint8_t *, size_t, uint64_t, uint64_t *);
     uint64_t (*read_request)(const uint8_t *, size_t, uint64_t *, uint64_t *, size_t *);
     uint64_t (*write_request)(uint8_t *, size_t, uint64_t, const uint64_t *, size_t *);
 };
@@ -59,8 +60,9 @@ struct scene;
 typedef uint64_t batch(const struct counter *counter, struct shop *shop, const struct scene *scene);
 
 /*
- * The ledger has 999 rows. Title 1, whose permits and move rights are not counted down, is in row 1. Entries of the run
- * `copies` have a copy of the title `lent`; those of the run `full` hold titles that differ, in entry j title 1000 - j.
+ * The card is an audio card, and the ledger has 999 rows. Title 1, whose permits and move rights are not counted down, is in
+ * row 1. Entries of the run `copies` have a copy of the title `lent`; those of the run `full` hold titles that differ, in
+ * entry j title 1000 - j.
  */
 struct scene {
     const char *section, *operation, *card;

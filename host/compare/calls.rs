@@ -1,7 +1,7 @@
-//! The ten operations, by document 01: each tests its conditions in the order of their numbers, and changes the tables only
-//! when none of them refuses.
+//! The ten operations, by document 01, on tables of either pair: each tests its conditions in the order of their numbers, and
+//! changes the tables only when none of them refuses.
 
-use crate::tables::{CardHead, Entry, EntryKind, Facts, LedgerHead, Row, RowState, RuleHalf, Tables, TitleHalf};
+use crate::tables::{CardHead, Entry, EntryKind, Facts, LedgerHead, Pair, Row, RowState, RuleHalf, Tables, TitleHalf};
 use crate::tables::{KEY_LIMIT, LAST_ENTRY, MOST_ROWS, ROW_SIZE, RULE_TABLE_SIZE, TITLE_TABLE_SIZE, UNLIMITED};
 
 #[derive(Clone, Copy, Debug, PartialEq)]
@@ -99,6 +99,17 @@ impl Call {
     }
 }
 
+/// Whether f2 of this call is the STI key of the full entry that it would wipe.
+pub fn leaves_sti_key(call: &Call, tables: &Tables) -> bool {
+    match *call {
+        Call::MoveOut { entry, fillers, .. } | Call::Delete { entry, fillers } => {
+            let full = tables.entry(entry).filter(|found| found.kind() == EntryKind::Full);
+            full.is_some_and(|found| fillers[1] % KEY_LIMIT == found.rule.sti_key)
+        }
+        _ => false,
+    }
+}
+
 /// A refusal by its number.
 type Tested<T> = Result<T, u64>;
 
@@ -106,19 +117,19 @@ fn refuse_unless(condition: bool, number: u64) -> Tested<()> {
     if condition { Ok(()) } else { Err(number) }
 }
 
-/// Carries the call out on the tables and answers its number. A tally that is done also sets `tallied`.
-pub fn perform(call: &Call, tables: &mut Tables, tallied: &mut u64) -> u64 {
+/// Carries the call of this pair out on the tables and answers its number. A tally that is done also sets `tallied`.
+pub fn perform(pair: Pair, call: &Call, tables: &mut Tables, tallied: &mut u64) -> u64 {
     let tested = match *call {
         Call::Register { content, facts } => register(tables, content, facts),
-        Call::Record { content, entry, facts, hash } => record(tables, content, entry, facts, hash),
-        Call::CheckOut { content, entry } => check_out(tables, content, entry),
-        Call::CheckIn { entry, f1 } => check_in(tables, entry, f1),
-        Call::MoveOut { entry, hash, fillers } => move_out(tables, entry, hash, fillers),
-        Call::MoveIn { content, entry, hash } => move_in(tables, content, entry, hash),
-        Call::Delete { entry, fillers } => delete(tables, entry, fillers),
-        Call::Tally { content } => tally(tables, content).map(|copies| *tallied = copies),
+        Call::Record { content, entry, facts, hash } => record(pair, tables, content, entry, facts, hash),
+        Call::CheckOut { content, entry } => check_out(pair, tables, content, entry),
+        Call::CheckIn { entry, f1 } => check_in(pair, tables, entry, f1),
+        Call::MoveOut { entry, hash, fillers } => move_out(pair, tables, entry, hash, fillers),
+        Call::MoveIn { content, entry, hash } => move_in(pair, tables, content, entry, hash),
+        Call::Delete { entry, fillers } => delete(pair, tables, entry, fillers),
+        Call::Tally { content } => tally(pair, tables, content).map(|copies| *tallied = copies),
         Call::FormatLedger { rows, application } => format_ledger(tables, rows, application),
-        Call::FormatCard { application } => format_card(tables, application),
+        Call::FormatCard { application } => format_card(pair, tables, application),
     };
     tested.err().unwrap_or(0)
 }
@@ -139,19 +150,19 @@ fn test_ledger(tables: &Tables) -> Tested<LedgerHead> {
     tables.ledger_head().ok_or(7)
 }
 
-fn test_titles(tables: &Tables) -> Tested<CardHead> {
-    tables.title_head().ok_or(8)
+fn test_titles(pair: Pair, tables: &Tables) -> Tested<CardHead> {
+    tables.title_head(pair).ok_or(8)
 }
 
-fn test_rules(tables: &Tables) -> Tested<CardHead> {
-    tables.rule_head().ok_or(9)
+fn test_rules(pair: Pair, tables: &Tables) -> Tested<CardHead> {
+    tables.rule_head(pair).ok_or(9)
 }
 
 /// 7, 8 and 9 of a call that takes ledger and card.
-fn test_tables(tables: &Tables) -> Tested<()> {
+fn test_tables(pair: Pair, tables: &Tables) -> Tested<()> {
     let ledger = test_ledger(tables)?;
-    test_titles(tables)?;
-    let rules = test_rules(tables)?;
+    test_titles(pair, tables)?;
+    let rules = test_rules(pair, tables)?;
     refuse_unless(rules.application == ledger.application, 9)
 }
 
@@ -203,9 +214,10 @@ fn test_title_filler(found: &Entry, f1: u64) -> Tested<()> {
     refuse_unless(f1 % KEY_LIMIT != found.title.title_key, 16)
 }
 
-fn test_fillers_of_full(found: &Entry, fillers: [u64; 4]) -> Tested<()> {
+/// "In picture calls condition 16 looks at f1 only."
+fn test_fillers_of_full(pair: Pair, found: &Entry, fillers: [u64; 4]) -> Tested<()> {
     test_title_filler(found, fillers[0])?;
-    refuse_unless(fillers[1] % KEY_LIMIT != found.rule.sti_key, 16)
+    refuse_unless(pair == Pair::Picture || fillers[1] % KEY_LIMIT != found.rule.sti_key, 16)
 }
 
 fn register(tables: &mut Tables, content: u64, facts: Facts) -> Tested<()> {
@@ -217,11 +229,11 @@ fn register(tables: &mut Tables, content: u64, facts: Facts) -> Tested<()> {
     Ok(())
 }
 
-fn record(tables: &mut Tables, content: u64, entry: u64, facts: Facts, hash: u64) -> Tested<()> {
+fn record(pair: Pair, tables: &mut Tables, content: u64, entry: u64, facts: Facts, hash: u64) -> Tested<()> {
     test_content(content)?;
     test_entry(entry)?;
     test_facts(&facts)?;
-    test_tables(tables)?;
+    test_tables(pair, tables)?;
     entry_of_kind(tables, entry, &[EntryKind::Free])?;
     row_in_state(tables, content, RowState::Empty)?;
     put_full(tables, content, entry, &facts, hash);
@@ -229,10 +241,10 @@ fn record(tables: &mut Tables, content: u64, entry: u64, facts: Facts, hash: u64
     Ok(())
 }
 
-fn check_out(tables: &mut Tables, content: u64, entry: u64) -> Tested<()> {
+fn check_out(pair: Pair, tables: &mut Tables, content: u64, entry: u64) -> Tested<()> {
     test_content(content)?;
     test_entry(entry)?;
-    test_tables(tables)?;
+    test_tables(pair, tables)?;
     entry_of_kind(tables, entry, &[EntryKind::Free])?;
     let mut row = row_in_state(tables, content, RowState::Here)?;
     refuse_unless(row.facts.permits != 0, 12)?;
@@ -242,9 +254,9 @@ fn check_out(tables: &mut Tables, content: u64, entry: u64) -> Tested<()> {
     Ok(())
 }
 
-fn check_in(tables: &mut Tables, entry: u64, f1: u64) -> Tested<()> {
+fn check_in(pair: Pair, tables: &mut Tables, entry: u64, f1: u64) -> Tested<()> {
     test_entry(entry)?;
-    test_tables(tables)?;
+    test_tables(pair, tables)?;
     let found = entry_of_kind(tables, entry, &[EntryKind::Copy])?;
     let mut row = row_in_state(tables, found.content_id(), RowState::Here)?;
     refuse_unless(row.facts.permits != 14, 15)?;
@@ -255,23 +267,23 @@ fn check_in(tables: &mut Tables, entry: u64, f1: u64) -> Tested<()> {
     Ok(())
 }
 
-fn move_out(tables: &mut Tables, entry: u64, hash: u64, fillers: [u64; 4]) -> Tested<()> {
+fn move_out(pair: Pair, tables: &mut Tables, entry: u64, hash: u64, fillers: [u64; 4]) -> Tested<()> {
     test_entry(entry)?;
-    test_tables(tables)?;
+    test_tables(pair, tables)?;
     let found = entry_of_kind(tables, entry, &[EntryKind::Full])?;
     row_in_state(tables, found.content_id(), RowState::Away)?;
     test_move(&found.facts())?;
     refuse_unless(hash == found.rule.hash, 13)?;
-    test_fillers_of_full(&found, fillers)?;
+    test_fillers_of_full(pair, &found, fillers)?;
     tables.put_row(found.content_id(), &Row::here(moved(found.facts())));
     wipe_both_halves(tables, entry, found, fillers);
     Ok(())
 }
 
-fn move_in(tables: &mut Tables, content: u64, entry: u64, hash: u64) -> Tested<()> {
+fn move_in(pair: Pair, tables: &mut Tables, content: u64, entry: u64, hash: u64) -> Tested<()> {
     test_content(content)?;
     test_entry(entry)?;
-    test_tables(tables)?;
+    test_tables(pair, tables)?;
     entry_of_kind(tables, entry, &[EntryKind::Free])?;
     let row = row_in_state(tables, content, RowState::Here)?;
     test_move(&row.facts)?;
@@ -281,9 +293,9 @@ fn move_in(tables: &mut Tables, content: u64, entry: u64, hash: u64) -> Tested<(
     Ok(())
 }
 
-fn delete(tables: &mut Tables, entry: u64, fillers: [u64; 4]) -> Tested<()> {
+fn delete(pair: Pair, tables: &mut Tables, entry: u64, fillers: [u64; 4]) -> Tested<()> {
     test_entry(entry)?;
-    test_tables(tables)?;
+    test_tables(pair, tables)?;
     let found = entry_of_kind(tables, entry, &[EntryKind::Copy, EntryKind::Full])?;
     if found.kind() == EntryKind::Copy {
         test_title_filler(&found, fillers[0])?;
@@ -291,16 +303,16 @@ fn delete(tables: &mut Tables, entry: u64, fillers: [u64; 4]) -> Tested<()> {
         return Ok(());
     }
     row_in_state(tables, found.content_id(), RowState::Away)?;
-    test_fillers_of_full(&found, fillers)?;
+    test_fillers_of_full(pair, &found, fillers)?;
     wipe_both_halves(tables, entry, found, fillers);
     tables.put_row(found.content_id(), &Row::gone());
     Ok(())
 }
 
-fn tally(tables: &Tables, content: u64) -> Tested<u64> {
+fn tally(pair: Pair, tables: &Tables, content: u64) -> Tested<u64> {
     test_content(content)?;
-    test_titles(tables)?;
-    test_rules(tables)?;
+    test_titles(pair, tables)?;
+    test_rules(pair, tables)?;
     Ok(tables.copies(content))
 }
 
@@ -312,12 +324,12 @@ fn format_ledger(tables: &mut Tables, rows: u64, application: u16) -> Tested<()>
     Ok(())
 }
 
-fn format_card(tables: &mut Tables, application: u16) -> Tested<()> {
+fn format_card(pair: Pair, tables: &mut Tables, application: u16) -> Tested<()> {
     refuse_unless(tables.titles.len() == TITLE_TABLE_SIZE, 8)?;
     refuse_unless(tables.rules.len() == RULE_TABLE_SIZE, 9)?;
     tables.titles.fill(0);
     tables.rules.fill(0);
-    CardHead::fresh_titles().write(&mut tables.titles[..16]);
-    CardHead::fresh_rules(application).write(&mut tables.rules[..32]);
+    CardHead::fresh_titles(pair).write(&mut tables.titles[..16]);
+    CardHead::fresh_rules(pair, application).write(&mut tables.rules[..32]);
     Ok(())
 }

@@ -4,7 +4,7 @@
 use crate::calls::{self, Call, OPERATIONS};
 use crate::history::Titles;
 use crate::requests::{self, Request};
-use crate::tables::Tables;
+use crate::tables::{Pair, Tables, PAIRS};
 use crate::till;
 
 /// Answers are 0 to 16.
@@ -21,12 +21,37 @@ pub struct Run {
     /// Calls of the ten operations, and requests read and written.
     pub calls: u64,
     pub requests: u64,
-    /// Titles that demand 3 was tested of, with a holder and with a deleted one.
-    pub titles: Titles,
-    operations: [[u64; ANSWERS]; OPERATIONS.len()],
+    /// What came up for audio titles, and for pictures.
+    pairs: [OfPair; 2],
     reading: [u64; ANSWERS],
     kinds_read: [u64; 8],
     writing: [u64; ANSWERS],
+}
+
+/// What came up in calls of one pair.
+#[derive(Clone, Copy, Default)]
+struct OfPair {
+    /// Titles that demand 3 was tested of, with a holder and with a deleted one.
+    titles: Titles,
+    operations: [[u64; ANSWERS]; OPERATIONS.len()],
+    /// Calls on tables that are right but for the pair, by their answers.
+    other_pair: [u64; ANSWERS],
+    /// Calls whose f2 is the STI key of the full entry that they name, by their answers.
+    sti_key_left: [u64; ANSWERS],
+}
+
+impl OfPair {
+    /// Of calls on tables of the other pair, 8 and 9; of fillers that leave the STI key, 16 or, for pictures, done.
+    fn complete(&self, pair: Pair) -> Result<(), String> {
+        let left = if pair == Pair::Audio { 16 } else { 0 };
+        if self.other_pair[8] == 0 || self.other_pair[9] == 0 || self.sti_key_left[left] == 0 {
+            return Err(format!("{pair:?}: no table of the other pair, or no filler that leaves the STI key"));
+        }
+        if self.titles.with_holder == 0 || self.titles.deleted == 0 {
+            return Err(format!("{pair:?}: demand 3 was not tested"));
+        }
+        Ok(())
+    }
 }
 
 impl Run {
@@ -37,8 +62,7 @@ impl Run {
             round: 0,
             calls: 0,
             requests: 0,
-            titles: Titles::default(),
-            operations: [[0; ANSWERS]; OPERATIONS.len()],
+            pairs: [OfPair::default(); 2],
             reading: [0; ANSWERS],
             kinds_read: [0; 8],
             writing: [0; ANSWERS],
@@ -49,6 +73,13 @@ impl Run {
     pub fn found(&self, what: String) -> String {
         let Run { seed, part, round, calls, requests, .. } = self;
         format!("seed {seed}, {part}, round {round}, call {calls}, request {requests}\n{what}")
+    }
+
+    /// Notes how many titles demand 3 was tested of.
+    pub fn note_titles(&mut self, pair: Pair, tested: Titles) {
+        let titles = &mut self.pairs[pair as usize].titles;
+        titles.with_holder += tested.with_holder;
+        titles.deleted += tested.deleted;
     }
 
     /// Reads a request by both.
@@ -110,26 +141,31 @@ impl Run {
         self.read_request(&written)
     }
 
-    fn tables_of_answers(&self) -> Vec<(&'static str, &'static [u64], &[u64; ANSWERS])> {
-        let operations = OPERATIONS.iter().zip(&self.operations);
-        let mut lines: Vec<_> = operations.map(|((_, name, allowed), counts)| (*name, *allowed, counts)).collect();
-        lines.push(("read request", READING, &self.reading));
-        lines.push(("write request", WRITING, &self.writing));
+    fn tables_of_answers(&self) -> Vec<(String, &'static [u64], &[u64; ANSWERS])> {
+        let mut lines = Vec::new();
+        for pair in PAIRS {
+            for ((_, name, allowed), counts) in OPERATIONS.iter().zip(&self.pairs[pair as usize].operations) {
+                lines.push((format!("{pair:?} {name}"), *allowed, counts));
+            }
+        }
+        lines.push(("read request".to_string(), READING, &self.reading));
+        lines.push(("write request".to_string(), WRITING, &self.writing));
         lines
     }
 
     /// How often each answer came up, a line for each operation.
     pub fn print(&self) {
         for (name, _, counts) in self.tables_of_answers() {
-            print!("{name:13}");
-            let came_up = counts.iter().enumerate().filter(|(_, count)| **count > 0);
-            came_up.for_each(|(answer, count)| print!("  {answer}: {count}"));
-            println!();
+            print_line(&name, counts);
         }
-        print!("kinds read   ");
-        (1..8).for_each(|kind| print!("  {kind}: {}", self.kinds_read[kind]));
-        let Titles { with_holder, deleted } = self.titles;
-        println!("\ndemand 3 tested of {with_holder} titles with a holder and {deleted} whose holder was deleted");
+        print_line("kinds read", &self.kinds_read);
+        for pair in PAIRS {
+            let OfPair { titles, other_pair, sti_key_left, .. } = &self.pairs[pair as usize];
+            print_line(&format!("{pair:?} on tables of the other pair"), other_pair);
+            print_line(&format!("{pair:?} with f2 the STI key"), sti_key_left);
+            let Titles { with_holder, deleted } = titles;
+            println!("{pair:?}: demand 3 tested of {with_holder} titles with a holder and {deleted} whose holder was deleted");
+        }
         println!("{} calls and {} requests compared", self.calls, self.requests);
     }
 
@@ -144,9 +180,7 @@ impl Run {
                 }
             }
         }
-        if self.titles.with_holder == 0 || self.titles.deleted == 0 {
-            return Err("demand 3 was not tested".to_string());
-        }
+        PAIRS.into_iter().try_for_each(|pair| self.pairs[pair as usize].complete(pair))?;
         match (1..8).find(|kind| self.kinds_read[*kind] == 0) {
             Some(kind) => Err(format!("no request of kind {kind} was read")),
             None => Ok(()),
@@ -154,8 +188,17 @@ impl Run {
     }
 }
 
-/// The same tables twice, and the number that a tally writes.
+/// How often each number came up.
+fn print_line(name: &str, counts: &[u64]) {
+    print!("{name:21}");
+    let came_up = counts.iter().enumerate().filter(|(_, count)| **count > 0);
+    came_up.for_each(|(number, count)| print!("  {number}: {count}"));
+    println!();
+}
+
+/// The same tables twice, the pair that calls on them are of, and the number that a tally writes.
 pub struct Sides {
+    pub pair: Pair,
     pub library: Tables,
     expected: Tables,
     library_tallied: u64,
@@ -163,8 +206,8 @@ pub struct Sides {
 }
 
 impl Sides {
-    pub fn new(tables: &Tables) -> Self {
-        Sides { library: tables.clone(), expected: tables.clone(), library_tallied: 0, expected_tallied: 0 }
+    pub fn new(pair: Pair, tables: &Tables) -> Self {
+        Sides { pair, library: tables.clone(), expected: tables.clone(), library_tallied: 0, expected_tallied: 0 }
     }
 
     /// Both sides as they were in these tables.
@@ -182,15 +225,26 @@ impl Sides {
         // A number that no tally answers shows whether a refusal keeps it.
         self.library_tallied = u64::MAX - run.calls;
         self.expected_tallied = self.library_tallied;
-        let answer = till::perform(call, &mut self.library, &mut self.library_tallied);
-        let expected = calls::perform(call, &mut self.expected, &mut self.expected_tallied);
+        let leaves_sti_key = calls::leaves_sti_key(call, &self.library);
+        let answer = till::perform(self.pair, call, &mut self.library, &mut self.library_tallied);
+        let expected = calls::perform(self.pair, call, &mut self.expected, &mut self.expected_tallied);
         if answer != expected || self.first_difference().is_some() {
             let difference = self.first_difference().unwrap_or_default();
-            let what = format!("{call:?}\nlibrary answers {answer}, expected {expected}\n{difference}");
+            let what = format!("{:?} {call:?}\nlibrary answers {answer}, expected {expected}\n{difference}", self.pair);
             return Err(run.found(what));
         }
-        run.operations[call.operation() as usize][answer as usize] += 1;
+        self.note(run, call, answer as usize, leaves_sti_key);
         Ok(answer)
+    }
+
+    fn note(&self, run: &mut Run, call: &Call, answer: usize, leaves_sti_key: bool) {
+        let came_up = &mut run.pairs[self.pair as usize];
+        came_up.operations[call.operation() as usize][answer] += 1;
+        let other = self.pair.other();
+        let of_other = (answer == 8 && self.library.title_head(other).is_some())
+            || (answer == 9 && self.library.rule_head(other).is_some());
+        came_up.other_pair[answer] += u64::from(of_other);
+        came_up.sti_key_left[answer] += u64::from(leaves_sti_key);
     }
 
     fn first_difference(&self) -> Option<String> {

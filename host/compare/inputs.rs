@@ -1,7 +1,7 @@
 //! Arguments and tables, chosen by a seeded generator of random numbers.
 
 use crate::calls::{Call, Operation};
-use crate::tables::{CardHead, Entry, EntryKind, Facts, LedgerHead, Row, RowState, RuleHalf, Tables, TitleHalf};
+use crate::tables::{CardHead, Entry, EntryKind, Facts, LedgerHead, Pair, Row, RowState, RuleHalf, Tables, TitleHalf};
 use crate::tables::{KEY_LIMIT, ROW_SIZE, RULE_HALF_SIZE, RULE_TABLE_SIZE, TITLE_HALF_SIZE, TITLE_TABLE_SIZE};
 
 /// Random numbers by the splitmix64 rule: the same seed gives the same numbers.
@@ -204,16 +204,16 @@ pub fn fits(tables: &Tables, call: &Call) -> bool {
     }
 }
 
-/// A fresh ledger and card, by structures, with no call made.
-pub fn fresh_tables(rows: u64, application: u16, card_application: u16) -> Tables {
+/// A fresh ledger and card, by structures, with no call made. Title table and rule table have a pair each.
+pub fn fresh_tables(pairs: [Pair; 2], rows: u64, application: u16, card_application: u16) -> Tables {
     let mut tables = Tables {
         ledger: vec![0; ROW_SIZE * (rows as usize + 1)],
         titles: vec![0; TITLE_TABLE_SIZE],
         rules: vec![0; RULE_TABLE_SIZE],
     };
     LedgerHead::fresh(rows, application).write(&mut tables.ledger[..ROW_SIZE]);
-    CardHead::fresh_titles().write(&mut tables.titles[..TITLE_HALF_SIZE]);
-    CardHead::fresh_rules(card_application).write(&mut tables.rules[..RULE_HALF_SIZE]);
+    CardHead::fresh_titles(pairs[0]).write(&mut tables.titles[..TITLE_HALF_SIZE]);
+    CardHead::fresh_rules(pairs[1], card_application).write(&mut tables.rules[..RULE_HALF_SIZE]);
     tables
 }
 
@@ -240,11 +240,12 @@ pub fn named(random: &mut Random, rows: u64) -> Named {
 }
 
 /// Tables that no list of calls need have left: rows and entries of all kinds that do not fit each other, ignored and
-/// reserved bits set, and sometimes heads or lengths that are wrong.
-pub fn varied_tables(random: &mut Random) -> (Tables, Named) {
+/// reserved bits set, and sometimes heads, pairs or lengths that are wrong.
+pub fn varied_tables(random: &mut Random, pair: Pair) -> (Tables, Named) {
     let rows = number_of_rows(random);
     let application = random.number() as u16;
-    let mut tables = fresh_tables(rows, application, application);
+    let pairs = [(); 2].map(|()| if random.chance(96) { pair } else { pair.other() });
+    let mut tables = fresh_tables(pairs, rows, application, application);
     let named = named(random, rows);
     if random.chance(50) {
         vary_heads(random, &mut tables);

@@ -18,6 +18,7 @@ use std::time::{Duration, Instant};
 
 use compare::Run;
 use inputs::Random;
+use tables::PAIRS;
 
 /// Calls of a round in a run by time.
 const CALLS_OF_ROUND: u64 = 2_000_000;
@@ -26,10 +27,10 @@ const CALLS_OF_ROUND: u64 = 2_000_000;
 fn all_values(run: &mut Run) -> Result<(), String> {
     request_bytes::all_short(run)?;
     request_bytes::at_limits(run)?;
-    parts::every_byte(run)?;
-    parts::full_card(run)?;
+    PAIRS.into_iter().try_for_each(|pair| parts::every_byte(run, pair))?;
+    PAIRS.into_iter().try_for_each(|pair| parts::full_card(run, pair))?;
     (0..10).try_for_each(|round| parts::arguments_at_limits(run, round))?;
-    (0..5).try_for_each(|round| parts::formats(run, round))
+    (0..6).try_for_each(|round| parts::formats(run, round))
 }
 
 /// Histories, varied tables and requests, until there were so many calls.

@@ -3,9 +3,9 @@
 
 use crate::calls::{self, Call, Operation, OPERATIONS};
 use crate::compare::{Run, Sides};
-use crate::history::Counts;
+use crate::history::{Counts, Titles};
 use crate::inputs::{self, Named, Random, CUT_OFF, LIMITS};
-use crate::tables::{Facts, Row, RuleHalf, Tables, TitleHalf, LAST_ENTRY, UNLIMITED};
+use crate::tables::{Facts, Pair, Row, RuleHalf, Tables, TitleHalf, LAST_ENTRY, PAIRS, UNLIMITED};
 use crate::tables::{ROW_SIZE, RULE_HALF_SIZE, RULE_TABLE_SIZE, TITLE_HALF_SIZE, TITLE_TABLE_SIZE};
 
 /// How often each operation comes in a history. Deletes come apart, since titles are to be lent and moved before they go.
@@ -28,7 +28,8 @@ pub fn history(run: &mut Run, round: u64) -> Result<(), String> {
     let application = random.number() as u16;
     let other = random.pick(&[application ^ 1, application ^ 256, application.swap_bytes(), 0]);
     let card_application = if random.chance(97) { application } else { other };
-    let mut sides = formatted(run, &mut random, rows, [application, card_application])?;
+    let pair = random.pick(&PAIRS);
+    let mut sides = formatted(run, &mut random, pair, rows, [application, card_application])?;
     let mut counts = Counts::default();
     let often: Vec<Operation> = OFTEN.iter().flat_map(|(operation, times)| vec![*operation; *times]).collect();
     let deletes = random.pick(&[0, 1, 3, 8]);
@@ -68,19 +69,19 @@ fn noted_call(run: &mut Run, sides: &mut Sides, counts: &mut Counts, call: &Call
 }
 
 fn check(run: &mut Run, sides: &Sides, counts: &Counts) -> Result<(), String> {
-    let mut titles = run.titles;
+    let mut titles = Titles::default();
     counts.check(&sides.library, &mut titles).map_err(|what| run.found(what))?;
-    run.titles = titles;
+    run.note_titles(sides.pair, titles);
     Ok(())
 }
 
 /// One title lent to every entry of the card, and each copy taken back or deleted.
-pub fn full_card(run: &mut Run) -> Result<(), String> {
-    (run.part, run.round) = ("full card", 0);
-    let mut random = Random::new(run.seed, run.part, 0);
+pub fn full_card(run: &mut Run, pair: Pair) -> Result<(), String> {
+    (run.part, run.round) = ("full card", pair as u64);
+    let mut random = Random::new(run.seed, run.part, run.round);
     let content = random.one_to(5);
     let facts = Facts { permits: UNLIMITED, ..inputs::facts(&mut random) };
-    let mut sides = formatted(run, &mut random, 5, [1, 1])?;
+    let mut sides = formatted(run, &mut random, pair, 5, [1, 1])?;
     let mut counts = Counts::default();
     let grant = Call::Register { content, facts };
     let lend = (1..=LAST_ENTRY).map(|entry| Call::CheckOut { content, entry });
@@ -105,25 +106,29 @@ fn all(rows: u64) -> Named {
 }
 
 /// A ledger and a card formatted over random bytes, each with its application number.
-fn formatted(run: &mut Run, random: &mut Random, rows: u64, applications: [u16; 2]) -> Result<Sides, String> {
+fn formatted(
+    run: &mut Run, random: &mut Random, pair: Pair, rows: u64, applications: [u16; 2],
+) -> Result<Sides, String> {
     let tables = Tables {
         ledger: random.bytes(ROW_SIZE * (rows as usize + 1)),
         titles: random.bytes(TITLE_TABLE_SIZE),
         rules: random.bytes(RULE_TABLE_SIZE),
     };
-    let mut sides = Sides::new(&tables);
+    let mut sides = Sides::new(pair, &tables);
     sides.call(run, &Call::FormatLedger { rows, application: applications[0] })?;
     sides.call(run, &Call::FormatCard { application: applications[1] })?;
     Ok(sides)
 }
 
-/// A few calls on tables of which anything may be wrong.
+/// A few calls, of either pair, on tables of which anything may be wrong, also that they are of the other pair.
 pub fn varied(run: &mut Run, round: u64) -> Result<(), String> {
     (run.part, run.round) = ("varied tables", round);
     let mut random = Random::new(run.seed, run.part, round);
-    let (tables, named) = inputs::varied_tables(&mut random);
-    let mut sides = Sides::new(&tables);
+    let pair = random.pick(&PAIRS);
+    let (tables, named) = inputs::varied_tables(&mut random, pair);
+    let mut sides = Sides::new(pair, &tables);
     for number in 0..24 {
+        sides.pair = if random.chance(95) { pair } else { pair.other() };
         // Formatting leaves nothing of what was varied, so it comes last.
         let operations = if number < 22 { &OPERATIONS[..8] } else { &OPERATIONS[8..] };
         let (operation, _, _) = random.pick(operations);
@@ -141,6 +146,7 @@ const ROWS: u64 = 5;
 
 /// Tables in which some calls are done, and those calls. One title and one entry are in them.
 struct Situation {
+    pair: Pair,
     tables: Tables,
     entry: u64,
     calls: Vec<Call>,
@@ -149,22 +155,22 @@ struct Situation {
 /// What stands at the entry; nothing stands in a half that is free.
 type Halves = (Option<TitleHalf>, Option<RuleHalf>);
 
-fn situation(random: &mut Random, row: Row, halves: Halves, operations: &[Operation]) -> Situation {
+fn situation(random: &mut Random, pair: Pair, row: Row, halves: Halves, operations: &[Operation]) -> Situation {
     let (entry, application) = (random.one_to(LAST_ENTRY), random.number() as u16);
-    let mut tables = inputs::fresh_tables(ROWS, application, application);
+    let mut tables = inputs::fresh_tables([pair; 2], ROWS, application, application);
     tables.put_row(CONTENT, &row);
     halves.0.iter().for_each(|half| tables.put_title_half(entry, half));
     halves.1.iter().for_each(|half| tables.put_rule_half(entry, half));
     let named = Named { contents: vec![CONTENT], entries: vec![entry] };
-    let calls = operations.iter().map(|operation| done_call(random, &tables, &named, *operation)).collect();
-    Situation { tables, entry, calls }
+    let calls = operations.iter().map(|operation| done_call(random, pair, &tables, &named, *operation)).collect();
+    Situation { pair, tables, entry, calls }
 }
 
 /// A call that is done here, as some of a thousand likely ones surely is.
-fn done_call(random: &mut Random, tables: &Tables, named: &Named, operation: Operation) -> Call {
+fn done_call(random: &mut Random, pair: Pair, tables: &Tables, named: &Named, operation: Operation) -> Call {
     let mut call = inputs::likely_call(random, tables, named, operation);
     for _ in 0..1000 {
-        if calls::perform(&call, &mut tables.clone(), &mut 0) == 0 {
+        if calls::perform(pair, &call, &mut tables.clone(), &mut 0) == 0 {
             break;
         }
         call = inputs::likely_call(random, tables, named, operation);
@@ -173,21 +179,21 @@ fn done_call(random: &mut Random, tables: &Tables, named: &Named, operation: Ope
 }
 
 /// A title not granted, here, lent, and away, with the calls that are done then.
-fn situations(random: &mut Random) -> Vec<Situation> {
+fn situations(random: &mut Random, pair: Pair) -> Vec<Situation> {
     use Operation::{CheckIn, CheckOut, Delete, MoveIn, MoveOut, Record, Register, Tally};
     let (rights, permits) = (random.one_to(15), random.one_to(13));
     let facts = Facts { trigger: 0, rights, permits, ..inputs::facts(random) };
     let here = Row::here(facts);
     let title = Some(TitleHalf::written(&facts, CONTENT));
     let rule = Some(RuleHalf::written(&facts, CONTENT, random.number()));
-    let mut lent = situation(random, here, (title, None), &[CheckIn, Delete, Tally]);
+    let mut lent = situation(random, pair, here, (title, None), &[CheckIn, Delete, Tally]);
     // With a copy out, a move in to another entry is refused.
     lent.calls.push(Call::MoveIn { content: CONTENT, entry: 1 + lent.entry % LAST_ENTRY, hash: random.number() });
     vec![
-        situation(random, Row::empty(), (None, None), &[Register, Record, Tally]),
-        situation(random, here, (None, None), &[CheckOut, MoveIn, Tally]),
+        situation(random, pair, Row::empty(), (None, None), &[Register, Record, Tally]),
+        situation(random, pair, here, (None, None), &[CheckOut, MoveIn, Tally]),
         lent,
-        situation(random, Row::away(), (title, rule), &[MoveOut, Delete, Tally]),
+        situation(random, pair, Row::away(), (title, rule), &[MoveOut, Delete, Tally]),
     ]
 }
 
@@ -204,12 +210,12 @@ fn each_call(run: &mut Run, sides: &mut Sides, tables: &Tables, calls: &[Call]) 
 }
 
 /// Every value of every byte of the heads, of a row and of an entry's two halves, and wrong lengths, one at a time.
-pub fn every_byte(run: &mut Run) -> Result<(), String> {
-    (run.part, run.round) = ("every byte", 0);
-    let mut random = Random::new(run.seed, run.part, 0);
-    for situation in situations(&mut random) {
-        let Situation { mut tables, entry, calls } = situation;
-        let mut sides = Sides::new(&tables);
+pub fn every_byte(run: &mut Run, pair: Pair) -> Result<(), String> {
+    (run.part, run.round) = ("every byte", pair as u64);
+    let mut random = Random::new(run.seed, run.part, run.round);
+    for situation in situations(&mut random, pair) {
+        let Situation { pair, mut tables, entry, calls } = situation;
+        let mut sides = Sides::new(pair, &tables);
         for (number, size, place) in [(0, ROW_SIZE, CONTENT), (1, TITLE_HALF_SIZE, entry), (2, RULE_HALF_SIZE, entry)] {
             let part = size * place as usize;
             for byte in (0..size).chain(part..part + size) {
@@ -234,8 +240,9 @@ pub fn every_byte(run: &mut Run) -> Result<(), String> {
 pub fn arguments_at_limits(run: &mut Run, round: u64) -> Result<(), String> {
     (run.part, run.round) = ("arguments at limits", round);
     let mut random = Random::new(run.seed, run.part, round);
-    for situation in situations(&mut random) {
-        let mut sides = Sides::new(&situation.tables);
+    let pair = PAIRS[round as usize % 2];
+    for situation in situations(&mut random, pair) {
+        let mut sides = Sides::new(situation.pair, &situation.tables);
         for call in &situation.calls {
             let arguments = call.arguments();
             for place in 0..arguments.len() {
@@ -265,12 +272,13 @@ fn rows_to_format(random: &mut Random) -> Vec<u64> {
 pub fn formats(run: &mut Run, round: u64) -> Result<(), String> {
     (run.part, run.round) = ("formatting", round);
     let mut random = Random::new(run.seed, run.part, round);
+    let pair = PAIRS[round as usize % 2];
     for rows in rows_to_format(&mut random) {
         let right = rows.wrapping_add(1).wrapping_mul(24).min(48_000) as usize;
         for length in [vec![right, 24_000, 24_024], inputs::wrong_lengths(right)].concat() {
             let application = application(&mut random);
             let tables = Tables { ledger: random.bytes(length), titles: random.bytes(32), rules: random.bytes(32) };
-            Sides::new(&tables).call(run, &Call::FormatLedger { rows, application })?;
+            Sides::new(pair, &tables).call(run, &Call::FormatLedger { rows, application })?;
         }
     }
     let titles = [vec![TITLE_TABLE_SIZE; 20], inputs::wrong_lengths(TITLE_TABLE_SIZE)].concat();
@@ -280,7 +288,7 @@ pub fn formats(run: &mut Run, round: u64) -> Result<(), String> {
         for rules in [rules, RULE_TABLE_SIZE] {
             let tables = Tables { ledger: random.bytes(48), titles: random.bytes(titles), rules: random.bytes(rules) };
             let application = application(&mut random);
-            Sides::new(&tables).call(run, &Call::FormatCard { application })?;
+            Sides::new(pair, &tables).call(run, &Call::FormatCard { application })?;
         }
     }
     Ok(())

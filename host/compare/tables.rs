@@ -351,6 +351,38 @@ impl LedgerHead {
     }
 }
 
+/// What a card's title table and rule table are for. Only the letters in their heads tell it.
+#[derive(Clone, Copy, Debug, PartialEq)]
+pub enum Pair {
+    Audio,
+    Picture,
+}
+
+pub const PAIRS: [Pair; 2] = [Pair::Audio, Pair::Picture];
+
+impl Pair {
+    pub fn other(self) -> Self {
+        match self {
+            Pair::Audio => Pair::Picture,
+            Pair::Picture => Pair::Audio,
+        }
+    }
+
+    fn title_letters(self) -> [u8; 2] {
+        match self {
+            Pair::Audio => *b"A1",
+            Pair::Picture => *b"P1",
+        }
+    }
+
+    fn rule_letters(self) -> [u8; 2] {
+        match self {
+            Pair::Audio => *b"M1",
+            Pair::Picture => *b"P1",
+        }
+    }
+}
+
 /// The two card tables have heads of one plan: letters, version, size, application number (zero in the title table), count
 /// of entries, size of an entry, and a last number.
 #[derive(Clone, Copy, Debug, PartialEq)]
@@ -397,9 +429,9 @@ impl CardHead {
         bytes[14..].copy_from_slice(&self.ignored_bytes[..ignored]);
     }
 
-    pub fn fresh_titles() -> Self {
+    pub fn fresh_titles(pair: Pair) -> Self {
         CardHead {
-            letters: *b"A1",
+            letters: pair.title_letters(),
             ignored_before_version: 0,
             version: 0x10,
             size: 16_000,
@@ -411,9 +443,9 @@ impl CardHead {
         }
     }
 
-    pub fn fresh_rules(application: u16) -> Self {
+    pub fn fresh_rules(pair: Pair, application: u16) -> Self {
         CardHead {
-            letters: *b"M1",
+            letters: pair.rule_letters(),
             ignored_before_version: 0,
             version: 0x11,
             size: 32_000,
@@ -425,8 +457,8 @@ impl CardHead {
         }
     }
 
-    pub fn right_for_titles(&self) -> bool {
-        self.letters == *b"A1"
+    pub fn right_for_titles(&self, pair: Pair) -> bool {
+        self.letters == pair.title_letters()
             && (self.version == 0x09 || self.version == 0x10)
             && self.size == 16_000
             && self.application == 0
@@ -436,8 +468,8 @@ impl CardHead {
     }
 
     /// All but the application number, which only a call with a ledger can test.
-    pub fn right_for_rules(&self) -> bool {
-        self.letters == *b"M1"
+    pub fn right_for_rules(&self, pair: Pair) -> bool {
+        self.letters == pair.rule_letters()
             && self.version >= 0x11
             && self.size == 32_000
             && self.entries == 999
@@ -467,14 +499,14 @@ impl Tables {
         right.then_some(head)
     }
 
-    pub fn title_head(&self) -> Option<CardHead> {
+    pub fn title_head(&self, pair: Pair) -> Option<CardHead> {
         let head = CardHead::read(self.titles.get(..TITLE_HALF_SIZE)?);
-        (self.titles.len() == TITLE_TABLE_SIZE && head.right_for_titles()).then_some(head)
+        (self.titles.len() == TITLE_TABLE_SIZE && head.right_for_titles(pair)).then_some(head)
     }
 
-    pub fn rule_head(&self) -> Option<CardHead> {
+    pub fn rule_head(&self, pair: Pair) -> Option<CardHead> {
         let head = CardHead::read(self.rules.get(..RULE_HALF_SIZE)?);
-        (self.rules.len() == RULE_TABLE_SIZE && head.right_for_rules()).then_some(head)
+        (self.rules.len() == RULE_TABLE_SIZE && head.right_for_rules(pair)).then_some(head)
     }
 
     /// Row c, where the ledger has one.

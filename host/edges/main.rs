@@ -301,15 +301,18 @@ const APPLICATION: u64 = 0x12ff;
 fn head(front: &[u8], length: usize, application: u64) {
     let mut table = front.to_vec();
     table.resize(length, 0);
-    Case::new("head", 0x21, &[application, length as u64], front)
+    let case = Case::new("head", 0x21, &[application, length as u64], front)
         .number("ledger", ledger_check(&table))
         .number("application", field(&table, 0, 2))
         .number("rows", field(&table, 2, 2))
-        .number("titles", titles_check(&table))
-        .number("rules", rules_check(&table))
-        .number("application", field(&table, 8, 2))
-        .number("for", if field(&table, 8, 2) == application { rules_check(&table) } else { 9 })
-        .end();
+        .number("application", field(&table, 8, 2));
+    let card = |case: Case, pair: Pair| {
+        let rules = rules_check(pair, &table);
+        case.number("titles", titles_check(pair, &table))
+            .number("rules", rules)
+            .number("for", if field(&table, 8, 2) == application { rules } else { 9 })
+    };
+    PAIRS.into_iter().fold(case, card).end();
 }
 
 // A table as it is, with each byte of its head one more, and with each of these versions.
@@ -328,10 +331,8 @@ fn changed_heads(front: &[u8], length: usize, versions: &[u8]) {
 }
 
 fn head_cases() {
-    let (ledger, titles, rules) = (ledger_head(2, APPLICATION), titles_head(), rules_head(APPLICATION));
-    changed_heads(&ledger, 72, &[]);
-    changed_heads(&titles, 16000, &[0x08, 0x09, 0x0a, 0x0b, 0x0c, 0x0d, 0x0e, 0x0f, 0x11, 0x12, 0x90]);
-    changed_heads(&rules, 32000, &[0x00, 0x10, 0x12, 0x13, 0x7f, 0x80, 0xff]);
+    changed_heads(&ledger_head(2, APPLICATION), 72, &[]);
+    PAIRS.into_iter().for_each(card_head_cases);
     let lengths: [(u64, &[usize]); 6] = [
         (0, &[0, 1, 23, 24, 25, 48]),
         (1, &[0, 1, 23, 24, 47, 48, 49, 72]),
@@ -343,6 +344,12 @@ fn head_cases() {
     for (rows, lengths) in lengths {
         lengths.iter().for_each(|n| head(&ledger_head(rows, APPLICATION), *n, APPLICATION));
     }
+}
+
+fn card_head_cases(pair: Pair) {
+    let (titles, rules) = (titles_head(pair), rules_head(pair, APPLICATION));
+    changed_heads(&titles, 16000, &[0x08, 0x09, 0x0a, 0x0b, 0x0c, 0x0d, 0x0e, 0x0f, 0x11, 0x12, 0x90]);
+    changed_heads(&rules, 32000, &[0x00, 0x10, 0x12, 0x13, 0x7f, 0x80, 0xff]);
     for length in [0, 1, 9, 13, 14, 16, 24, 15999, 16001, 32000] {
         head(&titles, length, APPLICATION);
     }
@@ -444,10 +451,16 @@ fn remainder_cases() {
     }
 }
 
+// On a card of audio titles, and on one of pictures.
 fn stream(requests: &[u8]) {
-    let mut shop = Shop::fresh();
+    PAIRS.into_iter().for_each(|pair| stream_of(pair, requests));
+}
+
+fn stream_of(pair: Pair, requests: &[u8]) {
+    let mut shop = Shop::fresh(pair);
     let (stop, lines) = shop.serve(requests);
-    let mut case = Case::new("stream", 0x05, &[], requests).number("stop", stop).number("count", lines.len() as u64);
+    let (word, code) = if pair == Pair::Audio { ("stream", 0x05) } else { ("pictures", 0x07) };
+    let mut case = Case::new(word, code, &[], requests).number("stop", stop).number("count", lines.len() as u64);
     for i in 0..4 {
         case = case.number("kind", lines.get(i).map_or(99, |line| line.0));
     }
@@ -479,6 +492,12 @@ fn streams() {
         stream(&list(&done[..n]));
     }
     stream(&list(&refused));
+    // Fillers that leave the STI key, of a recorded title that is moved out or deleted.
+    let (recorded, key) = (request(2, 2, 1), NAMED.sti_key);
+    for f2 in [key, KEY_LIMIT + key, key + 1] {
+        stream(&[&recorded[..], &form(5, &[1, 9, 0xf1, f2, 0xf3, 0xf4])].concat());
+        stream(&[&recorded[..], &form(7, &[1, 0xf1, f2, 0xf3, 0xf4])].concat());
+    }
     // What stops the reading, after a request that is carried out, and with one behind it that is not.
     for fault in FAULTS {
         stream(&[&request(1, 1, 0), fault, &request(3, 1, 1)].concat());
@@ -487,7 +506,7 @@ fn streams() {
 
 // Lines that are no case: no digits, a code that nothing has, fewer bytes than its numbers have.
 fn no_cases() {
-    for line in ["", "no digits", "00", "07", "7F", "FF", "1", "11", "12 00", "88 0000000000000000", "29 0000000000000000 0000000000000000"] {
+    for line in ["", "no digits", "00", "08", "7F", "FF", "1", "11", "12 00", "88 0000000000000000", "29 0000000000000000 0000000000000000"] {
         Case { line: line.to_string(), names: String::new(), answer: " ?".to_string() }.end();
     }
 }

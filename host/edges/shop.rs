@@ -1,10 +1,11 @@
-// A fresh ledger of 4 rows and a fresh card, and a stream of requests on them.
+// A fresh ledger of 4 rows and a fresh card of either pair, and a stream of requests on them.
 
 use crate::numbers::parse;
 use crate::tables::*;
 
 // Rows and halves by their numbers; place 0 is the head's.
 pub struct Shop {
+    pub pair: Pair,
     pub rows: Vec<Vec<u8>>,
     pub titles: Vec<Vec<u8>>,
     pub rules: Vec<Vec<u8>>,
@@ -27,8 +28,8 @@ const COPY: u64 = 1;
 const FULL: u64 = 2;
 
 impl Shop {
-    pub fn fresh() -> Shop {
-        Shop { rows: vec![vec![0; 24]; 5], titles: vec![vec![0; 16]; 1000], rules: vec![vec![0; 32]; 1000] }
+    pub fn fresh(pair: Pair) -> Shop {
+        Shop { pair, rows: vec![vec![0; 24]; 5], titles: vec![vec![0; 16]; 1000], rules: vec![vec![0; 32]; 1000] }
     }
     // 0 where no byte is left, or the number that stopped reading, and each request's kind and answer. A refused call stops
     // nothing.
@@ -89,6 +90,8 @@ impl Shop {
         };
         let fillers = &a[if call == 5 { 2 } else { 1 }..];
         let leaves = |k: usize, half: &[u8]| fillers[k] % KEY_LIMIT == key(half);
+        // "In picture calls condition 16 looks at f1 only."
+        let leaves_sti = || self.pair == Pair::Audio && leaves(1, rule);
         let may_not_move = f.trigger == 1 || f.rights == 0;
         let conditions = match call {
             1 => vec![(11, !self.is(c, EMPTY))],
@@ -97,12 +100,12 @@ impl Shop {
             4 => vec![(10, kind != COPY), (11, !self.is(c, HERE)), (15, f.permits == 14), (16, leaves(0, title))],
             5 => vec![
                 (10, kind != FULL), (11, !self.is(c, AWAY)), (12, may_not_move), (13, a[1] != hash(rule)),
-                (16, leaves(0, title) || leaves(1, rule)),
+                (16, leaves(0, title) || leaves_sti()),
             ],
             6 => vec![(10, kind != FREE), (11, !self.is(c, HERE)), (12, may_not_move), (14, self.copies(c) != 0)],
             _ => vec![
                 (10, kind != COPY && kind != FULL), (11, kind == FULL && !self.is(c, AWAY)),
-                (16, leaves(0, title) || kind == FULL && leaves(1, rule)),
+                (16, leaves(0, title) || kind == FULL && leaves_sti()),
             ],
         };
         conditions.iter().find(|(_, holds)| *holds).map_or(0, |(number, _)| *number)

@@ -173,12 +173,23 @@ pub fn ledger_head(rows: u64, application: u64) -> Vec<u8> {
     out
 }
 
-pub fn titles_head() -> Vec<u8> {
-    b"A1\x00\x10\x00\x00\x3e\x80\x00\x00\x03\xe7\x10\x01\x00\x00".to_vec()
+// Audio or picture: the tables of a card make a pair of one of these.
+#[derive(Clone, Copy, PartialEq)]
+pub enum Pair {
+    Audio,
+    Picture,
 }
 
-pub fn rules_head(application: u64) -> Vec<u8> {
-    let mut out = b"M1\x00\x11\x00\x00\x7d\x00".to_vec();
+pub const PAIRS: [Pair; 2] = [Pair::Audio, Pair::Picture];
+
+pub fn titles_head(pair: Pair) -> Vec<u8> {
+    let identifier = if pair == Pair::Audio { b"A1" } else { b"P1" };
+    [&identifier[..], b"\x00\x10\x00\x00\x3e\x80\x00\x00\x03\xe7\x10\x01\x00\x00"].concat()
+}
+
+pub fn rules_head(pair: Pair, application: u64) -> Vec<u8> {
+    let mut out = if pair == Pair::Audio { b"M1" } else { b"P1" }.to_vec();
+    out.extend(b"\x00\x11\x00\x00\x7d\x00");
     out.extend((application as u16).to_be_bytes());
     out.extend(b"\x03\xe7\x20\x02");
     out.resize(32, 0);
@@ -195,12 +206,12 @@ fn like(s: &[u8], right: &[u8], tested: &[usize]) -> bool {
     tested.iter().all(|i| s[*i] == right[*i])
 }
 
-pub fn titles_check(s: &[u8]) -> u64 {
+pub fn titles_check(pair: Pair, s: &[u8]) -> u64 {
     let tested = [0, 1, 4, 5, 6, 7, 8, 9, 10, 11, 12, 13];
-    if s.len() == 16000 && [0x09, 0x10].contains(&s[3]) && like(s, &titles_head(), &tested) { 0 } else { 8 }
+    if s.len() == 16000 && [0x09, 0x10].contains(&s[3]) && like(s, &titles_head(pair), &tested) { 0 } else { 8 }
 }
 
-pub fn rules_check(s: &[u8]) -> u64 {
+pub fn rules_check(pair: Pair, s: &[u8]) -> u64 {
     let tested = [0, 1, 4, 5, 6, 7, 10, 11, 12, 13];
-    if s.len() == 32000 && s[3] >= 0x11 && like(s, &rules_head(0), &tested) { 0 } else { 9 }
+    if s.len() == 32000 && s[3] >= 0x11 && like(s, &rules_head(pair, 0), &tested) { 0 } else { 9 }
 }

@@ -4,7 +4,8 @@
 #   - every refusal's name, number and words: `// Words.` over `pub const NAME: u64 = N;` in the source is `COUNTER_NAME = N`
 #     with `/* words */` in the header, and `counter_text` answers these words for it; 0 is `done`; there is no other constant,
 #     no number is left out and no two have the same words;
-#   - every size: the number that the definitions or the code have for it;
+#   - every size, and the two values of a pair: what the definitions or the code have for it;
+#   - the number of the interface: that of the last landing note that has one;
 #   - the numbers by name in host/requests, which takes its texts from the header.
 #
 # constants.sh FILE..: the sources in which refusals have their names. Exit code 1 where something differs, with what it is.
@@ -83,8 +84,16 @@ longest_request() {
         END { print most }' crates/requests/specs/Request.antt
 }
 
-sizes="TITLES_SIZE $(number 'tablePasses 0x4131 ([0-9]+) ' crates/formats/specs/Head.antt)
-RULES_SIZE $(number 'rulesPass r = tablePasses 0x4D31 ([0-9]+) ' crates/formats/specs/Head.antt)
+# The value of C's `bool pair` that means this pair.
+pair() {
+    sed -nE "s@^pairOf (false|true) = $1\$@\1@p" crates/till/specs/Given.antt
+}
+
+sizes="INTERFACE $(sed -nE 's@^Interface: ([0-9]+)$@\1@p' docs/landings/*.md | sort -n | tail -n 1)
+AUDIO $(pair Audio)
+PICTURE $(pair Picture)
+TITLES_SIZE $(number 'tablePasses \(titlesIdentifier pair\) ([0-9]+) ' crates/formats/specs/Head.antt)
+RULES_SIZE $(number 'rulesPass pair r = tablePasses \(rulesIdentifier pair\) ([0-9]+) ' crates/formats/specs/Head.antt)
 LEDGER_SIZE $(number 'eqb \(length l\) \(([0-9]+) \* \(rowsOf l \+ 1\)\)' crates/formats/specs/Head.antt) * (rows + 1)
 MOST_ROWS $(number '^numbered v = leb 1 v \&\& leb v ([0-9]+)' crates/formats/specs/Facts.antt)
 LAST_ENTRY $(number 'eqb \(number \(part t 10 2\)\) ([0-9]+) ' crates/formats/specs/Head.antt)
@@ -92,5 +101,5 @@ UNLIMITED $(number '^pub const UNLIMITED: u64 = ([0-9]+);' crates/calls/src/coun
 ARGUMENTS $(number ' arguments: &mut \[u64; ([0-9]+)\]' crates/till/src/lib.rt)
 LONGEST_REQUEST $(longest_request)"
 defined=$(sed -nE 's@^#define COUNTER_([A-Z_]+)(\(rows\))? (.*)$@\1 \3@p' "$header" | sed -E 's@\((24 \* .*)\)$@\1@; s@\(\(size_t\)\(rows\)@(rows@')
-same "the sizes of $header" "$(sort <<< "$sizes")" "$(sort <<< "$defined")"
-echo "constants: $((last + 1)) numbers with their words, $(wc -l <<< "$sizes") sizes"
+same "the sizes, pairs and interface of $header" "$(sort <<< "$sizes")" "$(sort <<< "$defined")"
+echo "constants: $((last + 1)) numbers with their words, $(wc -l <<< "$sizes") sizes and other constants"

@@ -1,5 +1,6 @@
 /*
- * Tests libtill.a through music_counter.h, call by call, against document 01.
+ * Tests libtill.a through music_counter.h, call by call, against document 01 and, for picture tables, request W1 of document
+ * 02. All that is lent tables runs twice, with those of either pair.
  *
  * Before each call the test knows every byte of the three buffers; after it, it knows every byte that the paper wants
  * there, since it sets them itself, field by field. All bytes are compared after every call, and so are the guard bytes
@@ -24,9 +25,19 @@
 
 static unsigned long checks;
 
+/* The pair that a fresh card is of and that every call names; a failure tells it. */
+static bool pair;
+static const char *tables;
+
+static void take(bool next)
+{
+    pair = next;
+    tables = next == COUNTER_AUDIO ? "audio tables" : "picture tables";
+}
+
 static void fail(int line, const char *name, const char *what, uint64_t found, uint64_t wanted)
 {
-    printf("host/till/test.c:%d: %s: %s %" PRIu64 ", not %" PRIu64 "\n", line, name, what, found, wanted);
+    printf("host/till/test.c:%d: %s: %s: %s %" PRIu64 ", not %" PRIu64 "\n", line, tables, name, what, found, wanted);
     exit(1);
 }
 
@@ -122,9 +133,19 @@ static void compare(int line, const char *name, const struct buffer *b)
         }
 }
 
-/* ---------------------------------------------------------------- the tables, from document 01 */
+/* ---------------------------------------------------------------- the tables, from documents 01 and 02 */
 
 #define APPLICATION 0x1234
+
+/* "Picture tables have the identifiers P1 and P1 in place of A1 and M1, otherwise the same layout" */
+#define A1 0x4131
+#define M1 0x4d31
+#define P1 0x5031
+
+static const struct { uint64_t titles, rules; } identifiers[] = {
+    [COUNTER_AUDIO] = {A1, M1},
+    [COUNTER_PICTURE] = {P1, P1},
+};
 
 /* The arguments of the next call, as far as it has them. */
 static struct {
@@ -148,17 +169,25 @@ static void fresh_card(uint64_t application)
 {
     resize(&titles, 0);
     resize(&titles, 16000);
-    put(&titles, 0, 4, 0x41310010);
+    put(&titles, 0, 2, identifiers[pair].titles);
+    put(&titles, 2, 2, 0x0010);
     put(&titles, 4, 4, 16000);
     put(&titles, 10, 2, 999);
     put(&titles, 12, 2, 0x1001);
     resize(&rules, 0);
     resize(&rules, 32000);
-    put(&rules, 0, 4, 0x4d310011);
+    put(&rules, 0, 2, identifiers[pair].rules);
+    put(&rules, 2, 2, 0x0011);
     put(&rules, 4, 4, 32000);
     put(&rules, 8, 2, application);
     put(&rules, 10, 2, 999);
     put(&rules, 12, 2, 0x2002);
+}
+
+/* A title table or a rule table as the other pair has it. */
+static void of_other_pair(struct buffer *b)
+{
+    put(b, 0, 2, b == &titles ? identifiers[!pair].titles : identifiers[!pair].rules);
 }
 
 static void plain_row(uint64_t c, unsigned state)
@@ -228,18 +257,19 @@ static uint64_t one_more(uint64_t count)
 #define LEDGER bytes(&ledger), ledger.length
 #define TITLES bytes(&titles), titles.length
 #define RULES bytes(&rules), rules.length
+#define CARD TITLES, RULES
 #define FACTS a.cci, a.trigger, a.rights, a.permits, a.title_key, a.sti_key
 
 static uint64_t call_format_ledger(void) { return counter_format_ledger(LEDGER, a.rows, (uint16_t)a.application); }
-static uint64_t call_format_card(void) { return counter_format_card(TITLES, RULES, (uint16_t)a.application); }
+static uint64_t call_format_card(void) { return counter_format_card(pair, CARD, (uint16_t)a.application); }
 static uint64_t call_register(void) { return counter_register(LEDGER, a.c, FACTS); }
-static uint64_t call_record(void) { return counter_record(LEDGER, TITLES, RULES, a.c, a.j, FACTS, a.h); }
-static uint64_t call_check_out(void) { return counter_check_out(LEDGER, TITLES, RULES, a.c, a.j); }
-static uint64_t call_check_in(void) { return counter_check_in(LEDGER, TITLES, RULES, a.j, a.f1); }
-static uint64_t call_move_out(void) { return counter_move_out(LEDGER, TITLES, RULES, a.j, a.h, a.f1, a.f2, a.f3, a.f4); }
-static uint64_t call_move_in(void) { return counter_move_in(LEDGER, TITLES, RULES, a.c, a.j, a.h); }
-static uint64_t call_delete(void) { return counter_delete(LEDGER, TITLES, RULES, a.j, a.f1, a.f2, a.f3, a.f4); }
-static uint64_t call_tally(void) { return counter_tally(TITLES, RULES, a.c, &copies); }
+static uint64_t call_record(void) { return counter_record(pair, LEDGER, CARD, a.c, a.j, FACTS, a.h); }
+static uint64_t call_check_out(void) { return counter_check_out(pair, LEDGER, CARD, a.c, a.j); }
+static uint64_t call_check_in(void) { return counter_check_in(pair, LEDGER, CARD, a.j, a.f1); }
+static uint64_t call_move_out(void) { return counter_move_out(pair, LEDGER, CARD, a.j, a.h, a.f1, a.f2, a.f3, a.f4); }
+static uint64_t call_move_in(void) { return counter_move_in(pair, LEDGER, CARD, a.c, a.j, a.h); }
+static uint64_t call_delete(void) { return counter_delete(pair, LEDGER, CARD, a.j, a.f1, a.f2, a.f3, a.f4); }
+static uint64_t call_tally(void) { return counter_tally(pair, CARD, a.c, &copies); }
 
 /* What each finds where it is done. Formatting finds anything. */
 static void ready_format(void)
@@ -394,6 +424,9 @@ static void begin(const struct function *f, uint64_t rows, uint64_t c, uint64_t 
     f->ready();
 }
 
+/* How often each function gave each answer, for each pair. */
+static unsigned long given[2][FUNCTIONS][COUNTER_FILLER + 1];
+
 /* Calls f on what is wanted now, and wants this answer and, where it is 0, what f leaves. */
 static void check(int line, const struct function *f, uint64_t answer)
 {
@@ -406,9 +439,22 @@ static void check(int line, const struct function *f, uint64_t answer)
     compare(line, f->name, &titles);
     compare(line, f->name, &rules);
     same(line, f->name, "copies", copies, copies_wanted);
+    given[pair][f - functions][answer]++;
 }
 
 #define CHECK(f, answer) check(__LINE__, f, answer)
+
+/* Each function was done, and gave each of its refusals, with tables of this pair. */
+static void all_answers(void)
+{
+    for (size_t i = 0; i < FUNCTIONS; i++) {
+        size_t seen = given[pair][i][COUNTER_DONE] > 0;
+
+        for (unsigned number = 1; number <= COUNTER_FILLER; number++)
+            seen += refuses(&functions[i], number) && given[pair][i][number] > 0;
+        same(__LINE__, functions[i].name, "answers that came up are", seen, 1 + strlen((const char *)functions[i].refusals));
+    }
+}
 
 /* ---------------------------------------------------------------- every refusal, alone and with others */
 
@@ -447,8 +493,21 @@ static void meet(const struct function *f, unsigned number)
     }
 }
 
+/* The same, where the pair gives another way: a table of the other one, or in an audio call an f2 that leaves the STI key. */
+static void meet_by_pair(const struct function *f, unsigned number)
+{
+    if (number == 8 && f->ready != ready_format)
+        of_other_pair(&titles);
+    else if (number == 9 && f->ready != ready_format)
+        of_other_pair(&rules);
+    else if (number == 16 && f->kind == FULL && pair == COUNTER_AUDIO)
+        a.f2 = a.sti_key;
+    else
+        meet(f, number);
+}
+
 /* Each set of a function's conditions at once: the lowest number is answered. The empty set is done. */
-static void all_sets_of_refusals(void)
+static void all_sets_of_refusals(void (*met)(const struct function *f, unsigned number))
 {
     for (size_t i = 0; i < FUNCTIONS; i++) {
         const struct function *f = &functions[i];
@@ -460,7 +519,7 @@ static void all_sets_of_refusals(void)
             begin(f, 64, 5, 7);
             for (size_t k = count; k > 0; k--)
                 if (set >> (k - 1) & 1) {
-                    meet(f, f->refusals[k - 1]);
+                    met(f, f->refusals[k - 1]);
                     answer = f->refusals[k - 1];
                 }
             CHECK(f, answer);
@@ -546,7 +605,10 @@ static void begin_with_keys(const struct function *f, uint64_t title_key, uint64
     f->ready();
 }
 
-/* A filler that leaves a key is refused, whatever its top byte; the last bit decides. */
+/*
+ * A filler that leaves a key is refused, whatever its top byte; the last bit decides. "In picture calls condition 16 looks at
+ * f1 only": there an f2 that leaves the STI key is written like any other, which shows in the reserved byte before the key.
+ */
 static void fillers_for(const struct function *f, uint64_t title_key, uint64_t sti_key, uint64_t top)
 {
     begin_with_keys(f, title_key, sti_key);
@@ -557,8 +619,8 @@ static void fillers_for(const struct function *f, uint64_t title_key, uint64_t s
     CHECK(f, 0);
     begin_with_keys(f, title_key, sti_key);
     a.f2 = top + sti_key;
-    put(&rules, 32 * 7 + 1, 7, sti_key); /* beside a copy it is no key */
-    CHECK(f, f->kind == FULL ? 16 : 0);
+    put(&rules, 32 * 7, 8, ((uint64_t)0x5a << 56) + sti_key); /* beside a copy it is no key */
+    CHECK(f, f->kind == FULL && pair == COUNTER_AUDIO ? 16 : 0);
     begin_with_keys(f, title_key, sti_key);
     a.f2 = top + (sti_key ^ (KEY_LIMIT >> 1));
     CHECK(f, 0);
@@ -581,6 +643,25 @@ static void fillers(void)
         for (size_t n = 0; n < COUNT_OF(keys) && refuses(&functions[i], 16); n++)
             for (size_t k = 0; k < COUNT_OF(tops); k++)
                 fillers_for(&functions[i], keys[n][0], keys[n][1], tops[k] << 56);
+}
+
+/* A copy has no STI key: for its delete f2 to f4 are any numbers, also that in its rule half. */
+static void fillers_beside_a_copy(void)
+{
+    const struct function *f = named("delete of a copy");
+    static const uint64_t any[] = {0, 1, 0x11223344556677, 0x8899aabbccddee, KEY_LIMIT - 1, KEY_LIMIT, TOP};
+
+    for (size_t k = 0; k < COUNT_OF(any); k++) {
+        begin(f, 64, 5, 7);
+        put(&rules, 32 * 7 + 1, 7, any[k]);
+        a.f2 = a.f3 = a.f4 = any[k];
+        CHECK(f, 0);
+        begin(f, 64, 5, 7);
+        put(&rules, 32 * 7 + 1, 7, any[k]);
+        a.f2 = a.f3 = a.f4 = any[k];
+        a.f1 = a.title_key;
+        CHECK(f, 16);
+    }
 }
 
 static void hashes(void)
@@ -654,6 +735,29 @@ static void all_heads(void)
     heads(&ledger, "rr0011111111111111111111", 7);
     heads(&titles, "0010000000000011", 8);
     heads(&rules, "001v0000aa0000111111111111111111", 9);
+}
+
+/*
+ * Each title table beside each rule table. A card of the other pair meets 8, as any title table does that is not of the
+ * call's pair; the rule table is tested after it.
+ */
+static void pairs(void)
+{
+    static const struct { uint64_t titles, rules, audio, picture; } cards[] = {
+        {A1, M1, 0, 8}, {A1, P1, 9, 8}, {A1, A1, 9, 8}, {P1, P1, 8, 0}, {P1, M1, 8, 9}, {P1, A1, 8, 9},
+        {M1, M1, 8, 8}, {M1, P1, 8, 8}, {M1, A1, 8, 8},
+    };
+
+    for (size_t i = 0; i < FUNCTIONS; i++) {
+        const struct function *f = &functions[i];
+
+        for (size_t k = 0; k < COUNT_OF(cards) && refuses(f, 8) && f->ready != ready_format; k++) {
+            begin(f, 64, 5, 7);
+            put(&titles, 0, 2, cards[k].titles);
+            put(&rules, 0, 2, cards[k].rules);
+            CHECK(f, pair == COUNTER_AUDIO ? cards[k].audio : cards[k].picture);
+        }
+    }
 }
 
 static void versions(void)
@@ -771,6 +875,23 @@ static void formatting(void)
         begin(named("format card"), 64, 5, 7);
         a.application = applications[k];
         CHECK(named("format card"), 0);
+    }
+}
+
+/* Formatting looks at no bytes: a used card of either pair becomes a fresh one of the call's pair. */
+static void formatting_anew(void)
+{
+    const struct function *f = named("format card");
+
+    for (unsigned other = 0; other < 2; other++) {
+        begin(f, 64, 5, 7);
+        fresh_card(0xeeee);
+        ready_full();
+        if (other) {
+            of_other_pair(&titles);
+            of_other_pair(&rules);
+        }
+        CHECK(f, 0);
     }
 }
 
@@ -1114,6 +1235,17 @@ static void a_history(void)
     CHECK(named("move in"), 12);
 }
 
+/* Calls of both pairs by turns, as in a shop that has both: none leaves anything behind for the next. */
+static void by_turns(void)
+{
+    for (size_t i = 0; i < FUNCTIONS; i++)
+        for (unsigned turn = 0; turn < 4; turn++) {
+            take(turn % 2 == 0 ? COUNTER_AUDIO : COUNTER_PICTURE);
+            begin(&functions[i], 64, 5, 7);
+            CHECK(&functions[i], 0);
+        }
+}
+
 /* ---------------------------------------------------------------- requests */
 
 /* Request bytes stand in the ledger's buffer, so that its guards hold them too; the numbers have guards of their own. */
@@ -1342,24 +1474,29 @@ static void texts(void)
     same(__LINE__, "text", "differs", strcmp(counter_text(17), counter_text(TOP)) != 0, 0);
 }
 
-int main(void)
+/* All that is lent a ledger or a card, with tables of one pair. Answers the count of checks. */
+static unsigned long all_with(bool next)
 {
-    make(&ledger);
-    make(&titles);
-    make(&rules);
-    all_sets_of_refusals();
+    unsigned long before = checks;
+
+    take(next);
+    all_sets_of_refusals(meet);
+    all_sets_of_refusals(meet_by_pair);
     content_ids();
     entry_numbers();
     facts();
     fillers();
+    fillers_beside_a_copy();
     hashes();
     lengths();
     all_heads();
+    pairs();
     versions();
     row_counts();
     places();
     applications_and_triggers();
     formatting();
+    formatting_anew();
     kinds();
     states();
     facts_of_rows();
@@ -1372,11 +1509,26 @@ int main(void)
     tallies();
     tallies_of_kinds();
     a_history();
+    all_answers();
+    return checks - before;
+}
+
+int main(void)
+{
+    unsigned long audio, picture;
+
+    make(&ledger);
+    make(&titles);
+    make(&rules);
+    audio = all_with(COUNTER_AUDIO);
+    picture = all_with(COUNTER_PICTURE);
+    by_turns();
+    tables = "no tables";
     requests();
     faulty_requests();
     limits_of_requests();
     faulty_numbers();
     texts();
-    printf("till: %lu checks\n", checks);
+    printf("till: %lu checks, %lu of them with audio tables and %lu with picture tables\n", checks, audio, picture);
     return 0;
 }

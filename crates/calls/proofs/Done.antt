@@ -10,7 +10,8 @@ use native.Mathlib.Omega.{arith}
 use native.Mathlib.Decide.{decLt, ℕ-discrete}
 use lib.ListN.{length, getD}
 use lib.Dec.{eqb}
-use Rattle.formats.specs.Part.{put}
+use Rattle.formats.specs.declared.head.Pair.{Pair}
+use Rattle.formats.specs.Part.{part, put}
 use Rattle.formats.specs.Half.{keyOf, idOf, wiped}
 use Rattle.formats.specs.Title.{cciOf, titleHalf}
 use Rattle.formats.specs.Rule.{hashOf, ruleHalf, wipedRule}
@@ -25,6 +26,7 @@ use Rattle.formats.specs.declared.row.RowState.{RowState}
 use Rattle.formats.specs.declared.row.RowState.the-variants.{Here, Away, Gone}
 use Rattle.requests.specs.declared.request.Request.{Request}
 use Rattle.requests.specs.declared.request.Request.the-variants.{Register, Record, CheckOut, CheckIn, MoveOut, MoveIn, Delete}
+use Rattle.formats.proofs.Layouts.{layout}
 use Rattle.formats.proofs.Bytes.{bytes-part}
 use Rattle.formats.proofs.Part.{getD-put-before, getD-put-after}
 use Rattle.formats.proofs.facts.Laws.{Ranges, ranges, in-range, permitting}
@@ -156,10 +158,15 @@ module _ (b : Buffers) (j : ℕ) (o : OnCard b j) where
       let e = title-is (wiped t f1) (wiped-title-long b j o f1) in
       record { title-half = e; key-gone = λ same. wiped-key-gone (half-wiped t f1) other (ap keyOf (sym e) ∙ same) }
 
-  rule-half-wiped : (f : Fillers) (ledger titles : List ℕ) → WipesStiKey b j (f .f2) → RuleWiped j f b (buffersOf ledger titles (put (b .rules) (32 * j) (wipedRule r f)))
-  rule-half-wiped f ledger titles other =
+  rule-half-wiped : (pair : Pair) (f : Fillers) (ledger titles : List ℕ) → WipesStiKey pair b j (f .f2)
+      → RuleWiped pair j f b (buffersOf ledger titles (put (b .rules) (32 * j) (wipedRule r f)))
+  rule-half-wiped pair f ledger titles other =
       let e = rule-is (wipedRule r f) (wiped-rule-long b j o f) in
-      record { rule-half = e; key-gone = λ same. wiped-key-gone (rule-wiped r f (rule-long b j o)) other (ap keyOf (sym e) ∙ same) }
+      record {
+        rule-half = e;
+        overwritten = ap (λ (h : List ℕ). part h 0 8) e ∙ layout .halves .wiped-rule r f (rule-long b j o) .bytes-0-7;
+        key-gone = λ audio same. wiped-key-gone (rule-wiped r f (rule-long b j o)) (other audio) (ap keyOf (sym e) ∙ same);
+      }
 
   -- a copy whose title half is wiped is free, and so is a full entry both of whose halves are
   free-copy : (f1 : ℕ) → kindAt b j ≡ Copy → kindOf (titleAt (put (b .titles) (16 * j) (wiped t f1)) j) r ≡ Free
@@ -185,11 +192,11 @@ module _ (b : Buffers) (j : ℕ) (o : OnCard b j) where
 
 -- THE SEVEN CALLS
 
-module _ (b : Buffers) (are-bytes : AreBytes b) where
-  leaves : (k : Request) → Named k b → Left k b (effect k b)
+module _ (pair : Pair) (b : Buffers) (are-bytes : AreBytes b) where
+  leaves : (k : Request) → Named pair k b → Left pair k b (effect k b)
   unfolding effect
   leaves (Register c f) n =
-      let is = its-row (Register c f) b n in
+      let is = its-row pair (Register c f) b n in
       let g = n .facts in
       record {
         row = row-is (b .ledger) (c .0) is (hereRow f) (here-length f) _ _ (Here f) (state-here f (in-range (to-ranges g)) (g .title-key) (g .sti-key));
@@ -197,18 +204,18 @@ module _ (b : Buffers) (are-bytes : AreBytes b) where
         rules = refl;
       }
   leaves (Record c j f h) n =
-      let o = on-card (Record c j f h) b n in
+      let o = on-card pair (Record c j f h) b n in
       let g = n .facts in
       record {
-        row = row-is (b .ledger) (c .0) (its-row (Record c j f h) b n) _ (plain-length _) _ _ Away state-plain-away;
+        row = row-is (b .ledger) (c .0) (its-row pair (Record c j f h) b n) _ (plain-length _) _ _ Away state-plain-away;
         entry =
             full-entry _ (j .0) (c .0) f h (n .content) (to-ranges g) (g .title-key) (g .sti-key)
             (title-is b (j .0) o _ (length-titleHalf (f .cci) (f .«title_key») (c .0))) (rule-is b (j .0) o _ (length-ruleHalf f h (c .0)));
       }
   leaves (CheckOut c j) n =
-      let o = on-card (CheckOut c j) b n in
+      let o = on-card pair (CheckOut c j) b n in
       let f = rowFacts b (c .0) in
-      let i = here-row b (c .0) (its-row (CheckOut c j) b n) (n .here) in
+      let i = here-row b (c .0) (its-row pair (CheckOut c j) b n) (n .here) in
       let half = title-is b (j .0) o (titleHalf (f .cci) (f .«title_key») (c .0)) (length-titleHalf (f .cci) (f .«title_key») (c .0)) in
       let unusable = of-free _ _ (n .free) .rule-unusable in
       record {
@@ -221,9 +228,9 @@ module _ (b : Buffers) (are-bytes : AreBytes b) where
         rules = refl;
       }
   leaves (CheckIn j f1) n =
-      let o = on-card (CheckIn j f1) b n in
+      let o = on-card pair (CheckIn j f1) b n in
       let c = contentAt b (j .0) in
-      let i = here-row b c (its-row (CheckIn j f1) b n) (n .here) in
+      let i = here-row b c (its-row pair (CheckIn j f1) b n) (n .here) in
       record {
         row = permits-become b c (oneMore (rowFacts b c .permits)) _ _ i (more-most (rowFacts b c .permits) (i .in-ranges .permits));
         free = free-copy b (j .0) o f1 (n .copy);
@@ -231,12 +238,12 @@ module _ (b : Buffers) (are-bytes : AreBytes b) where
         rules = refl;
       }
   leaves (MoveOut j h f) n =
-      let o = on-card (MoveOut j h f) b n in
+      let o = on-card pair (MoveOut j h f) b n in
       let c = contentAt b (j .0) in
       let g = afterMove (factsAt b (j .0)) in
       let i = full-facts b (j .0) o are-bytes (n .full) in
       let after = effect (MoveOut j h f) b in
-      let it = row-is (b .ledger) c (its-row (MoveOut j h f) b n) (hereRow g) (here-length g) (after .titles) (after .rules) (Here g)
+      let it = row-is (b .ledger) c (its-row pair (MoveOut j h f) b n) (hereRow g) (here-length g) (after .titles) (after .rules) (Here g)
       (state-here g (in-range (after-move-ranges (factsAt b (j .0)) (i .in-ranges))) (i .title-key) (i .sti-key)) in
       let same = ap hereFacts (it .reads) in
       record {
@@ -244,11 +251,11 @@ module _ (b : Buffers) (are-bytes : AreBytes b) where
         facts = recounted-move (factsAt b (j .0)) same;
         free = free-full b (j .0) o f;
         title = title-wiped b (j .0) o (f .f1) _ _ (n .title-key);
-        rule = rule-half-wiped b (j .0) o f _ _ (n .sti-key);
+        rule = rule-half-wiped b (j .0) o pair f _ _ (n .sti-key);
       }
   leaves (MoveIn c j h) n =
-      let o = on-card (MoveIn c j h) b n in
-      let i = here-row b (c .0) (its-row (MoveIn c j h) b n) (n .here) in
+      let o = on-card pair (MoveIn c j h) b n in
+      let i = here-row b (c .0) (its-row pair (MoveIn c j h) b n) (n .here) in
       let f = afterMove (rowFacts b (c .0)) in
       let keys = row-keys b (c .0) are-bytes i in
       let it = full-entry _ (j .0) (c .0) f h (n .content) (after-move-ranges (rowFacts b (c .0)) (i .in-ranges)) (keys .0) (keys .1)
@@ -259,7 +266,7 @@ module _ (b : Buffers) (are-bytes : AreBytes b) where
         facts = recounted-move (rowFacts b (c .0)) (it .facts);
       }
   leaves (Delete j f) n =
-      let o = on-card (Delete j f) b n in
+      let o = on-card pair (Delete j f) b n in
       let c = contentAt b (j .0) in
       record {
         of-copy = λ k.
@@ -274,24 +281,25 @@ module _ (b : Buffers) (are-bytes : AreBytes b) where
                     row = row-is (b .ledger) c (row-in b c Away refl (n .heads .ledger) away) _ (plain-length _) _ _ Gone state-plain-gone;
                     free = free-full b (j .0) o f;
                     title = title-wiped b (j .0) o (f .f1) _ _ (n .title-key);
-                    rule = rule-half-wiped b (j .0) o f _ _ key;
+                    rule = rule-half-wiped b (j .0) o pair f _ _ key;
                   }
             ];
       }
 
 -- WORK IS DONE
 pub work-is-done : WorkIsDone
-work-is-done k b =
+work-is-done pair k b =
     record {
-      answered = answered k b;
-      leaves = λ are-bytes n. subst (Left k b) (sym (carried-out k b (answered k b .done n))) (leaves b are-bytes k (named k b n));
-      untouched = untouched k b;
+      answered = answered pair k b;
+      leaves = λ are-bytes n. subst (Left pair k b) (sym (carried-out pair k b (answered pair k b .done n))) (leaves pair b are-bytes k (named pair k b n));
+      untouched = untouched pair k b;
     }
 
--- the card's tables are nothing to a register
+-- the card's tables are nothing to a register, nor is their pair
 pub register-by-ledger : RegisterByLedger
 unfolding perform refusal conditions effect
-register-by-ledger c f ledger titles rules titles′ rules′ = (refl, either-way (eqb (refusal (Register c f) (buffersOf ledger titles rules)) 0))
+register-by-ledger pair pair′ c f ledger titles rules titles′ rules′ =
+    record { answer = refl; ledger = either-way (eqb (refusal pair (Register c f) (buffersOf ledger titles rules)) 0) }
   where
     either-way : (x : Bool)
         → (cond x (withRow (c .0) (hereRow f) (buffersOf ledger titles rules)) (buffersOf ledger titles rules)) .ledger
@@ -301,35 +309,35 @@ register-by-ledger c f ledger titles rules titles′ rules′ = (refl, either-wa
 
 -- A GONE ROW
 
-head-of : (k : Request) (b : Buffers) → Named k b → LedgerHead (b .ledger)
-head-of (Register c f) b n = n .ledger
-head-of (Record c j f h) b n = n .heads .ledger
-head-of (CheckOut c j) b n = n .heads .ledger
-head-of (CheckIn j f1) b n = n .heads .ledger
-head-of (MoveOut j h f) b n = n .heads .ledger
-head-of (MoveIn c j h) b n = n .heads .ledger
-head-of (Delete j f) b n = n .heads .ledger
+head-of : (pair : Pair) (k : Request) (b : Buffers) → Named pair k b → LedgerHead (b .ledger)
+head-of pair (Register c f) b n = n .ledger
+head-of pair (Record c j f h) b n = n .heads .ledger
+head-of pair (CheckOut c j) b n = n .heads .ledger
+head-of pair (CheckIn j f1) b n = n .heads .ledger
+head-of pair (MoveOut j h f) b n = n .heads .ledger
+head-of pair (MoveIn c j h) b n = n .heads .ledger
+head-of pair (Delete j f) b n = n .heads .ledger
 
 -- is not the row that a done call writes
-not-gone : (k : Request) (b : Buffers) → Named k b → (d : ℕ) → stateAt b d ≡ Gone → rowWritten k b ≢ some d
-not-gone (Register c f) b n d gone e = let z : _≡_ {A = ℕ} 0 1 = cc in omega arith
-not-gone (Record c j f h) b n d gone e = let z : _≡_ {A = ℕ} 0 1 = cc in omega arith
-not-gone (CheckOut c j) b n d gone e = let z : _≡_ {A = ℕ} 0 1 = cc in omega arith
-not-gone (CheckIn j f1) b n d gone e = let z : _≡_ {A = ℕ} 0 1 = cc in omega arith
-not-gone (MoveOut j h f) b n d gone e = let z : _≡_ {A = ℕ} 0 1 = cc in omega arith
-not-gone (MoveIn c j h) b n d gone e = let z : _≡_ {A = ℕ} 0 1 = cc in omega arith
-not-gone (Delete j f) b n d gone e = by (n .deletable)
+not-gone : (pair : Pair) (k : Request) (b : Buffers) → Named pair k b → (d : ℕ) → stateAt b d ≡ Gone → rowWritten k b ≢ some d
+not-gone pair (Register c f) b n d gone e = let z : _≡_ {A = ℕ} 0 1 = cc in omega arith
+not-gone pair (Record c j f h) b n d gone e = let z : _≡_ {A = ℕ} 0 1 = cc in omega arith
+not-gone pair (CheckOut c j) b n d gone e = let z : _≡_ {A = ℕ} 0 1 = cc in omega arith
+not-gone pair (CheckIn j f1) b n d gone e = let z : _≡_ {A = ℕ} 0 1 = cc in omega arith
+not-gone pair (MoveOut j h f) b n d gone e = let z : _≡_ {A = ℕ} 0 1 = cc in omega arith
+not-gone pair (MoveIn c j h) b n d gone e = let z : _≡_ {A = ℕ} 0 1 = cc in omega arith
+not-gone pair (Delete j f) b n d gone e = by (n .deletable)
   where
     row : EntryKind → Option ℕ
     row k = cond (isFull k) (some (contentAt b (j .0))) none
 
-    by : Deletable (j .0) f b → ⊥
+    by : Deletable pair (j .0) f b → ⊥
     by (a-copy k) = let was : row (kindAt b (j .0)) ≡ none = ap row k in let z : _≡_ {A = ℕ} 0 1 = cc in omega arith
     by (a-holder k away key) = let was : row (kindAt b (j .0)) ≡ some (contentAt b (j .0)) = ap row k in let z : _≡_ {A = ℕ} 0 1 = cc in omega arith
 
 pub gone-stays : GoneStays
-gone-stays k b c gone =
-    elim (ℕ-discrete (perform k b .answer) 0) [
-      | yes done ↦ let n = needs-met k b done in row-else (untouched k b .rows) (head-of k b n) c (not-gone k b n c gone) ∙ gone
-      | no refused ↦ ap (λ (x : Buffers). stateAt x c) (unchanged k b refused) ∙ gone
+gone-stays pair k b c gone =
+    elim (ℕ-discrete (perform pair k b .answer) 0) [
+      | yes done ↦ let n = needs-met pair k b done in row-else (untouched pair k b .rows) (head-of pair k b n) c (not-gone pair k b n c gone) ∙ gone
+      | no refused ↦ ap (λ (x : Buffers). stateAt x c) (unchanged pair k b refused) ∙ gone
     ]

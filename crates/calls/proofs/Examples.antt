@@ -10,6 +10,7 @@ use native.Mathlib.Decide.{ℕ-discrete}
 use lib.Dec.{leb, eqb}
 use lib.ListN.{length}
 use borrow.Author.Tests.{eq-eqb}
+use Rattle.formats.specs.declared.head.Pair.{Pair}
 use Rattle.formats.specs.Field.{number, bytesOf}
 use Rattle.formats.specs.Half.{halfBytes, flagOf, usableOf, idOf}
 use Rattle.formats.specs.Title.{cciOf, titleHalf}
@@ -32,7 +33,7 @@ use Rattle.calls.specs.Perform.{perform}
 use Rattle.calls.specs.Needs.{MetBelow, needsOf}
 use Rattle.calls.specs.Examples.{E1, E2, E3, E4, E5, Moves, E6, E7, E8, ChecksIn, E9, E10, TenExamples}
 use Rattle.calls.proofs.Refusals.{past, of-first, to-none, meets, answer-first, refused-by, holds-not, fails-so}
-use Rattle.calls.proofs.Limits.{limits-agree, argument-numbers}
+use Rattle.calls.proofs.Limits.{after-arguments}
 use Rattle.calls.proofs.Done.{work-is-done}
 
 example-1 : E1
@@ -71,19 +72,19 @@ fails false e = refl
 abbrev sameApplication : Buffers → Bool
 sameApplication b = eqb (rulesApplication (b .rules)) (ledgerApplication (b .ledger))
 
-abbrev rulesOk : Buffers → Bool
-rulesOk b = rulesPass (b .rules) && sameApplication b
+abbrev rulesOk : Pair → Buffers → Bool
+rulesOk pair b = rulesPass pair (b .rules) && sameApplication b
 
 -- rights of which one less is `after`
 moves : (before after : ℕ) → oneLess before ≡ after → Moves before after
 moves before after e =
     record {
-      moved-out = λ b j h f are-bytes n are.
-          let w = work-is-done (MoveOut j h f) b in
+      moved-out = λ pair b j h f are-bytes n are.
+          let w = work-is-done pair (MoveOut j h f) b in
           let l = w .leaves are-bytes n in
           (w .answered .done n, record { here = l .row .reads; are = l .facts .rights-are ∙ ap oneLess are ∙ e });
-      moved-in = λ b c j h are-bytes n are.
-          let w = work-is-done (MoveIn c j h) b in
+      moved-in = λ pair b c j h are-bytes n are.
+          let w = work-is-done pair (MoveIn c j h) b in
           let l = w .leaves are-bytes n in
           (w .answered .done n, record { full = l .entry .full; id = l .entry .id; are = l .facts .rights-are ∙ ap oneLess are ∙ e });
     }
@@ -93,41 +94,28 @@ unfolding oneLess
 example-6 = (moves 15 15 refl, moves 14 13 refl, moves 1 0 refl)
 
 -- a call that is lent the card has no other condition 9
-only-9 : (k : Request) (b : Buffers) → callOf k ≢ 1 → meets 9 (conditions k b) ≡ true → rulesOk b ≡ false
+only-9 : (pair : Pair) (k : Request) (b : Buffers) → callOf k ≢ 1 → meets 9 (conditions pair k b) ≡ true → rulesOk pair b ≡ false
 unfolding conditions
-only-9 (Register c f) b lent met = absurd (lent refl)
-only-9 (Record c j f h) b lent met = fails (rulesOk b) met
-only-9 (CheckOut c j) b lent met = fails (rulesOk b) met
-only-9 (CheckIn j f1) b lent met = fails (rulesOk b) met
-only-9 (MoveOut j h f) b lent met = fails (rulesOk b) met
-only-9 (MoveIn c j h) b lent met = fails (rulesOk b) met
-only-9 (Delete j f) b lent met = fails (rulesOk b) met
-
--- its conditions after those of its arguments
-card-heads : (k : Request) (b : Buffers) → callOf k ≢ 1 → conditions k b ≡ argumentConditions k ++ (allHeadConditions b ++ stateConditions k b)
-unfolding conditions
-card-heads (Register c f) b lent = absurd (lent refl)
-card-heads (Record c j f h) b lent = refl
-card-heads (CheckOut c j) b lent = refl
-card-heads (CheckIn j f1) b lent = refl
-card-heads (MoveOut j h f) b lent = refl
-card-heads (MoveIn c j h) b lent = refl
-card-heads (Delete j f) b lent = refl
+only-9 pair (Register c f) b lent met = absurd (lent refl)
+only-9 pair (Record c j f h) b lent met = fails (rulesOk pair b) met
+only-9 pair (CheckOut c j) b lent met = fails (rulesOk pair b) met
+only-9 pair (CheckIn j f1) b lent met = fails (rulesOk pair b) met
+only-9 pair (MoveOut j h f) b lent met = fails (rulesOk pair b) met
+only-9 pair (MoveIn c j h) b lent met = fails (rulesOk pair b) met
+only-9 pair (Delete j f) b lent met = fails (rulesOk pair b) met
 
 example-7 : E7
 example-7 =
     record {
-      version-12 = λ k b lent rest version refused.
-          let passes : rulesPass (b .rules) ≡ true = rules-pass (record { table = table-head (rest .table); version = omega arith }) in
-          let ok : rulesOk b ≡ true = both passes (eq-eqb (rulesApplication (b .rules)) (ledgerApplication (b .ledger)) (rest .application)) in
-          true≢false (sym ok ∙ only-9 k b lent (refused-by k b 9 (λ e. omega arith) refused));
-      version-10 = λ k b lent before version.
-          let fails : rulesPass (b .rules) ≡ false = refuted (λ e. omega (arith, rules-head e .version)) in
-          let wrong : rulesOk b ≡ false = ap (λ (x : Bool). x && sameApplication b) fails in
-          answer-first k b
-          ∙ ap first (card-heads k b lent)
-          ∙ past (argumentConditions k) (allHeadConditions b ++ stateConditions k b) (to-none (argumentConditions k) (argument-numbers k) (limits-agree k ∙ before .its-arguments))
-          ∙ of-first 9 (allHeadConditions b ++ stateConditions k b) (inr (holds-not (before .ledger), inr (holds-not (before .titles), inl (fails-so wrong, refl))));
+      version-12 = λ pair k b lent rest version refused.
+          let passes : rulesPass pair (b .rules) ≡ true = rules-pass (record { table = table-head (rest .table); version = omega arith }) in
+          let ok : rulesOk pair b ≡ true = both passes (eq-eqb (rulesApplication (b .rules)) (ledgerApplication (b .ledger)) (rest .application)) in
+          true≢false (sym ok ∙ only-9 pair k b lent (refused-by pair k b 9 (λ e. omega arith) refused));
+      version-10 = λ pair k b lent before version.
+          let fails : rulesPass pair (b .rules) ≡ false = refuted (λ e. omega (arith, rules-head e .version)) in
+          let wrong : rulesOk pair b ≡ false = ap (λ (x : Bool). x && sameApplication b) fails in
+          after-arguments pair k b lent (before .its-arguments)
+          ∙ of-first 9 (allHeadConditions pair b ++ stateConditions pair k b) (inr (holds-not (before .ledger), inr (holds-not (before .titles), inl (fails-so wrong, refl))));
     }
 
 -- usable halves with two IDs, whatever the CCI
@@ -148,16 +136,16 @@ example-8 = (
 
 -- permits of which one more is `after`
 checks-in : (before after : ℕ) → oneMore before ≡ after → ChecksIn before after
-checks-in before after e b j f1 are-bytes n are =
-    let w = work-is-done (CheckIn j f1) b in
+checks-in before after e pair b j f1 are-bytes n are =
+    let w = work-is-done pair (CheckIn j f1) b in
     let l = w .leaves are-bytes n in
     (w .answered .done n, record { here = l .row .here; are = l .row .facts .permits-are ∙ ap oneMore are ∙ e })
 
 -- at permits 14 it is refused
-at-14 : (b : Buffers) (j : EntryNumber) (f1 : ℕ) → MetBelow 15 (needsOf (CheckIn j f1) b) → rowFacts b (contentAt b (j .0)) .permits ≡ 14
-    → perform (CheckIn j f1) b .answer ≡ 15
-at-14 b j f1 (entry, (ledger, (titles, (rules, (copy, (here, rest)))))) e =
-    work-is-done (CheckIn j f1) b .answered .refused 15 (inr (entry, inr (ledger, inr (titles, inr (rules, inr (copy, inr (here, inl (λ other. other e, refl))))))))
+at-14 : (pair : Pair) (b : Buffers) (j : EntryNumber) (f1 : ℕ) → MetBelow 15 (needsOf pair (CheckIn j f1) b) → rowFacts b (contentAt b (j .0)) .permits ≡ 14
+    → perform pair (CheckIn j f1) b .answer ≡ 15
+at-14 pair b j f1 (entry, (ledger, (titles, (rules, (copy, (here, rest)))))) e =
+    work-is-done pair (CheckIn j f1) b .answered .refused 15 (inr (entry, inr (ledger, inr (titles, inr (rules, inr (copy, inr (here, inl (λ other. other e, refl))))))))
 
 example-9 : E9
 unfolding oneMore

@@ -6,6 +6,7 @@ use mathlib.Core.Bool.{Bool, cond}
 use native.Mathlib.Omega.{arith}
 use lib.Dec.{leb}
 use borrow.Author.Tests.{leb-true}
+use Rattle.formats.specs.declared.head.Pair.{Pair}
 use Rattle.formats.specs.Head.{rowsOf, freshLedger}
 use Rattle.formats.specs.Entry.{kindOf}
 use Rattle.formats.specs.Row.{stateOf}
@@ -21,28 +22,28 @@ use Rattle.calls.specs.Fresh.{RowsByNumber, FreshIsReady}
 use Rattle.calls.proofs.Named.{HeadsPass}
 use Rattle.calls.proofs.Views.{state-of-row}
 
-module _ (rows application cardApplication : ℕ) where
-  pub fresh-empty : rows ≤ 999 → (c : ℕ) → Within rows c → stateAt (fresh rows application cardApplication) c ≡ Empty
+module _ (pair : Pair) (rows application cardApplication : ℕ) where
+  pub fresh-empty : rows ≤ 999 → (c : ℕ) → Within rows c → stateAt (fresh pair rows application cardApplication) c ≡ Empty
   fresh-empty high c is =
       let r = fresh-rows rows application (omega arith) in
       state-of-row _ c (is .from) (omega (arith, is .to)) ∙ ap stateOf (fresh-row rows application c (is .from) (is .to)) ∙ state-zeros
 
-  pub fresh-free : (j : ℕ) → Within 999 j → kindAt (fresh rows application cardApplication) j ≡ Free
-  fresh-free j l = ap₂ kindOf (fresh-title j (l .from) (l .to)) (fresh-rule cardApplication j (l .from) (l .to)) ∙ kind-zeros
+  pub fresh-free : (j : ℕ) → Within 999 j → kindAt (fresh pair rows application cardApplication) j ≡ Free
+  fresh-free j l = ap₂ kindOf (fresh-title pair j (l .from) (l .to)) (fresh-rule pair cardApplication j (l .from) (l .to)) ∙ kind-zeros
 
-  pub fresh-bytes : AreBytes (fresh rows application cardApplication)
-  fresh-bytes = record { ledger = fresh-ledger-bytes rows application; titles = fresh-titles-bytes; rules = fresh-rules-bytes cardApplication }
+  pub fresh-bytes : AreBytes (fresh pair rows application cardApplication)
+  fresh-bytes = record { ledger = fresh-ledger-bytes rows application; titles = fresh-titles-bytes pair; rules = fresh-rules-bytes pair cardApplication }
 
 -- of one application
-pub fresh-heads : (rows application : ℕ) → 1 ≤ rows → rows ≤ 999 → application < 2 ^ 16 → HeadsPass (fresh rows application application)
-fresh-heads rows application low high small =
+pub fresh-heads : (pair : Pair) (rows application : ℕ) → 1 ≤ rows → rows ≤ 999 → application < 2 ^ 16 → HeadsPass pair (fresh pair rows application application)
+fresh-heads pair rows application low high small =
     record {
       ledger = ledger-head (freshLedger rows application) (fresh-ledger-passes rows application low high);
-      titles = titles-head fresh-titles-pass;
+      titles = titles-head (fresh-titles-pass pair);
       rules =
           record {
-            head = rules-head (fresh-rules-pass application);
-            application = fresh-rules-application application small ∙ sym (fresh-ledger-application rows application small);
+            head = rules-head (fresh-rules-pass pair application);
+            application = fresh-rules-application pair application small ∙ sym (fresh-ledger-application rows application small);
           };
     }
 
@@ -59,14 +60,14 @@ rows-by-number =
     }
 
 pub fresh-is-ready : FreshIsReady
-fresh-is-ready rows application in-range small =
-    let p = fresh-heads rows application (in-range .from) (in-range .to) small in
+fresh-is-ready pair rows application in-range small =
+    let p = fresh-heads pair rows application (in-range .from) (in-range .to) small in
     record {
       rows-are = fresh-rows rows application (omega (arith, in-range .to));
-      bytes = fresh-bytes rows application application;
+      bytes = fresh-bytes pair rows application application;
       ledger = p .ledger;
       titles = p .titles;
       rules = p .rules;
-      empty = fresh-empty rows application application (in-range .to);
-      free = fresh-free rows application application;
+      empty = fresh-empty pair rows application application (in-range .to);
+      free = fresh-free pair rows application application;
     }

@@ -4,6 +4,7 @@ use Prim.Native.Nat.{ℕ, _*_}
 use mathlib.Core.List.{List}
 use mathlib.Core.Bool.{Bool, true, false, cond}
 use lib.Dec.{lit<}
+use Rattle.formats.specs.declared.head.Pair.{Pair}
 use Rattle.formats.specs.Bytes.{Bytes}
 use Rattle.formats.specs.Part.{put}
 use Rattle.formats.specs.Half.{wiped}
@@ -87,16 +88,16 @@ module _ (b : Buffers) (bytes : AreBytes b) where
       (record { ledger = bytes .ledger; titles = title-wiped (j .0) (f .f1); rules = bytes .rules })
 
 -- Demand 1: every call, done or refused, "ends in bounds"
-pub in-bounds : (k : Request) (b : Buffers) → InBounds b (perform k b .buffers)
-in-bounds k b =
-    let u = untouched k b in
+pub in-bounds : (pair : Pair) (k : Request) (b : Buffers) → InBounds b (perform pair k b .buffers)
+in-bounds pair k b =
+    let u = untouched pair k b in
     record {
       ledger-length = u .rows .same-length;
       titles-length = u .titles .same-length;
       rules-length = u .rules .same-length;
-      stay-bytes = λ bytes. either-way AreBytes (call-refused-first k b) bytes (λ none. effect-bytes b bytes k);
+      stay-bytes = λ bytes. either-way AreBytes (call-refused-first pair k b) bytes (λ none. effect-bytes b bytes k);
     }
 
 -- DEMAND 1
 pub demand-1-calls : Demand1Calls
-demand-1-calls k b = (call-refused-first k b, in-bounds k b)
+demand-1-calls pair k b = (call-refused-first pair k b, in-bounds pair k b)

@@ -1,7 +1,8 @@
 -- 4 to 6 of a call are the limits that the reader and the writer of requests test.
 -- Assumes nothing.
 use Prim.Native.Nat.{ℕ}
-use mathlib.Core.Path.{_≡_, refl, sym, ap}
+use mathlib.Core.Path.{_≡_, refl, sym, ap, _∙_}
+use mathlib.Core.List.{_++_}
 use mathlib.Core.Logic.{_≢_}
 use mathlib.Core.Bool.{Bool, true, false, not, _&&_, cond}
 use native.Mathlib.Omega.{arith}
@@ -9,13 +10,16 @@ use lib.Dec.{eqb}
 use borrow.Author.Tests.{ne-eqb}
 use Rattle.formats.specs.Facts.{numbered, factsPass, cciPasses, triggerPasses, countPasses, keyPasses, inRange, factValues}
 use Rattle.formats.specs.Refusal.{unless}
-use Rattle.requests.specs.Request.{factArguments, schema, firstLimit, limitOf}
+use Rattle.formats.specs.declared.head.Pair.{Pair}
+use Rattle.requests.specs.Request.{kindOf as callOf, factArguments, schema, firstLimit, limitOf}
 use Rattle.formats.specs.declared.facts.Facts.{Facts}
 use Rattle.requests.specs.declared.request.Request.{Request}
 use Rattle.requests.specs.declared.request.Request.the-variants.{Register, Record, CheckOut, CheckIn, MoveOut, MoveIn, Delete}
 use Rattle.calls.specs.Refusal.{first}
-use Rattle.calls.specs.Conditions.{argumentConditions}
-use Rattle.calls.proofs.Refusals.{refusing}
+use Rattle.calls.specs.Buffers.{Buffers}
+use Rattle.calls.specs.Conditions.{argumentConditions, allHeadConditions, stateConditions, conditions}
+use Rattle.calls.specs.Perform.{perform}
+use Rattle.calls.proofs.Refusals.{refusing, past, to-none, answer-first}
 
 -- one test
 pub one-limit : (x : Bool) (n : ℕ) {rest limits : ℕ} → n ≢ 0 → rest ≡ limits → cond (not x) n rest ≡ cond (eqb (unless x n) 0) limits (unless x n)
@@ -63,3 +67,22 @@ argument-numbers (CheckIn j f1) = refl
 argument-numbers (MoveOut j h f) = refl
 argument-numbers (MoveIn c j h) = refl
 argument-numbers (Delete j f) = refl
+
+-- the conditions of a call that is lent the card, after those of its arguments
+card-heads : (pair : Pair) (k : Request) (b : Buffers) → callOf k ≢ 1 → conditions pair k b ≡ argumentConditions k ++ (allHeadConditions pair b ++ stateConditions pair k b)
+unfolding conditions
+card-heads pair (Register c f) b lent = absurd (lent refl)
+card-heads pair (Record c j f h) b lent = refl
+card-heads pair (CheckOut c j) b lent = refl
+card-heads pair (CheckIn j f1) b lent = refl
+card-heads pair (MoveOut j h f) b lent = refl
+card-heads pair (MoveIn c j h) b lent = refl
+card-heads pair (Delete j f) b lent = refl
+
+-- so where its arguments are within their limits, heads and state give the answer
+pub after-arguments : (pair : Pair) (k : Request) (b : Buffers) → callOf k ≢ 1 → limitOf k ≡ 0
+    → perform pair k b .answer ≡ first (allHeadConditions pair b ++ stateConditions pair k b)
+after-arguments pair k b lent within =
+    answer-first pair k b
+    ∙ ap first (card-heads pair k b lent)
+    ∙ past (argumentConditions k) (allHeadConditions pair b ++ stateConditions pair k b) (to-none (argumentConditions k) (argument-numbers k) (limits-agree k ∙ within))

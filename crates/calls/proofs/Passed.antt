@@ -1,6 +1,6 @@
 -- A call passes its conditions exactly where its needs are met.
 -- Assumes nothing.
-use Prim.Native.Nat.{ℕ}
+use Prim.Native.Nat.{ℕ, _%_, _^_}
 use mathlib.Core.Path.{_≡_, refl, sym, ap, _∙_}
 use mathlib.Core.Logic.{_≢_, _⊎_, inl, inr, ⊎-elim}
 use mathlib.Core.List.{List, [], _∷_}
@@ -9,6 +9,9 @@ use native.Mathlib.Omega.{arith}
 use lib.ListN.{length}
 use lib.Dec.{eqb}
 use borrow.Author.Tests.{lt-ltb, ltb-true, eq-eqb, ne-eqb, eqb-true, eqb-false, not-false}
+use Rattle.formats.specs.declared.head.Pair.{Pair}
+use Rattle.formats.specs.declared.head.Pair.the-variants.{Audio, Picture}
+use Rattle.formats.specs.Half.{keyOf}
 use Rattle.formats.specs.Facts.{numbered, factsPass, inRange, keyPasses}
 use Rattle.formats.specs.Head.{LedgerHead, TitlesHead, RulesHead, ledgerPasses, ledgerApplication, titlesPass, rulesPass, rulesApplication}
 use Rattle.formats.specs.declared.facts.Facts.{Facts}
@@ -23,7 +26,7 @@ use Rattle.formats.proofs.facts.Laws.{numbered-range, range-numbered, Ranges, r
 use Rattle.formats.proofs.head.Laws.{ledger-head, ledger-passes, titles-head, titles-pass, rules-head, rules-pass}
 use Rattle.calls.specs.Buffers.{Buffers, stateAt, rowFacts, hereFacts, kindAt, contentAt, factsAt, isFree, isCopy, isFull, isEmpty, isHere, isAway, one, copies, Within}
 use Rattle.calls.specs.Refusal.{Condition, _when_, first, FirstToHold, NoneHolds}
-use Rattle.calls.specs.Conditions.{mayNotMove, conditions}
+use Rattle.calls.specs.Conditions.{leavesStiKey, mayNotMove, conditions}
 use Rattle.calls.specs.Perform.{perform}
 use Rattle.calls.specs.Needs.{Need, _needs_, AllMet, FirstUnmet, AnsweredBy, FactsInRange, RulesOfLedger, MayMove, NoCopy, needsOf}
 use Rattle.calls.proofs.Refusals.{refusing, none-is-0, answer-first, of-first, to-first, of-none, to-none, holds-not}
@@ -78,17 +81,17 @@ tests-facts f =
 tests-ledger : (l : List ℕ) → Tests (not (ledgerPasses l)) (LedgerHead l)
 tests-ledger l = record { met = λ e. ledger-head l (not-false _ e); unmet = λ h. holds-not (ledger-passes h) }
 
-pub tests-titles : (t : List ℕ) → Tests (not (titlesPass t)) (TitlesHead t)
-tests-titles t = record { met = λ e. titles-head (not-false _ e); unmet = λ h. holds-not (titles-pass h) }
+pub tests-titles : (pair : Pair) (t : List ℕ) → Tests (not (titlesPass pair t)) (TitlesHead pair t)
+tests-titles pair t = record { met = λ e. titles-head (not-false _ e); unmet = λ h. holds-not (titles-pass h) }
 
-pub tests-rule-head : (r : List ℕ) → Tests (not (rulesPass r)) (RulesHead r)
-tests-rule-head r = record { met = λ e. rules-head (not-false _ e); unmet = λ h. holds-not (rules-pass h) }
+pub tests-rule-head : (pair : Pair) (r : List ℕ) → Tests (not (rulesPass pair r)) (RulesHead pair r)
+tests-rule-head pair r = record { met = λ e. rules-head (not-false _ e); unmet = λ h. holds-not (rules-pass h) }
 
-tests-rules : (b : Buffers) → Tests (not (rulesPass (b .rules) && eqb (rulesApplication (b .rules)) (ledgerApplication (b .ledger)))) (RulesOfLedger b)
-tests-rules b =
+tests-rules : (pair : Pair) (b : Buffers) → Tests (not (rulesPass pair (b .rules) && eqb (rulesApplication (b .rules)) (ledgerApplication (b .ledger)))) (RulesOfLedger pair b)
+tests-rules pair b =
     record {
       met = λ e.
-          let (rules, application) = split (rulesPass (b .rules)) _ (not-false _ e) in
+          let (rules, application) = split (rulesPass pair (b .rules)) _ (not-false _ e) in
           record { head = rules-head rules; application = eqb-true _ _ application };
       unmet = λ r. holds-not (both (rules-pass (r .head)) (eq-eqb _ _ (r .application)));
     }
@@ -160,6 +163,13 @@ tests-other a n = record { met = eqb-false a n; unmet = ne-eqb a n }
 
 pub tests-same : (a n : ℕ) → Tests (not (eqb a n)) (a ≡ n)
 tests-same a n = record { met = λ e. eqb-true a n (not-false _ e); unmet = λ e. holds-not (eq-eqb a n e) }
+
+-- 16: the STI key, of which nothing is asked in a picture call
+tests-sti-key : (pair : Pair) (f2 : ℕ) (half : List ℕ) → Tests (leavesStiKey pair f2 half) (pair ≡ Audio → f2 % 2 ^ 56 ≢ keyOf half)
+tests-sti-key Audio f2 half =
+    let t = tests-other (f2 % 2 ^ 56) (keyOf half) in
+    record { met = λ e audio. t .met e; unmet = λ other. t .unmet (other refl) }
+tests-sti-key Picture f2 half = record { met = λ e audio. let z : _≡_ {A = ℕ} 0 1 = cc in absurd (omega arith); unmet = λ other. refl }
 
 -- two tests of which neither is to hold
 tests-both : {a b : Bool} {P Q : Type 0} → Tests a P → Tests b Q → Tests (a || b) (P × Q)
@@ -266,43 +276,43 @@ answered-by {cs} s refuses e =
     }
 
 -- those of each call are
-in-step : (k : Request) (b : Buffers) → InStep (conditions k b) (needsOf k b)
+in-step : (pair : Pair) (k : Request) (b : Buffers) → InStep (conditions pair k b) (needsOf pair k b)
 unfolding conditions
-in-step (Register c f) b = tests-number (c .0) then tests-facts f then tests-ledger (b .ledger) then tests-empty (stateAt b (c .0)) then end
-in-step (Record c j f h) b =
-    tests-number (c .0) then tests-number (j .0) then tests-facts f then tests-ledger (b .ledger) then tests-titles (b .titles) then tests-rules b
+in-step pair (Register c f) b = tests-number (c .0) then tests-facts f then tests-ledger (b .ledger) then tests-empty (stateAt b (c .0)) then end
+in-step pair (Record c j f h) b =
+    tests-number (c .0) then tests-number (j .0) then tests-facts f then tests-ledger (b .ledger) then tests-titles pair (b .titles) then tests-rules pair b
     then tests-free (kindAt b (j .0)) then tests-empty (stateAt b (c .0)) then end
-in-step (CheckOut c j) b =
-    tests-number (c .0) then tests-number (j .0) then tests-ledger (b .ledger) then tests-titles (b .titles) then tests-rules b
+in-step pair (CheckOut c j) b =
+    tests-number (c .0) then tests-number (j .0) then tests-ledger (b .ledger) then tests-titles pair (b .titles) then tests-rules pair b
     then tests-free (kindAt b (j .0)) then tests-here (stateAt b (c .0)) then tests-other (rowFacts b (c .0) .permits) 0 then end
-in-step (CheckIn j f1) b =
+in-step pair (CheckIn j f1) b =
     let c = contentAt b (j .0) in
-    tests-number (j .0) then tests-ledger (b .ledger) then tests-titles (b .titles) then tests-rules b
+    tests-number (j .0) then tests-ledger (b .ledger) then tests-titles pair (b .titles) then tests-rules pair b
     then tests-copy (kindAt b (j .0)) then tests-here (stateAt b c) then tests-other (rowFacts b c .permits) 14 then tests-other _ _ then end
-in-step (MoveOut j h f) b =
-    tests-number (j .0) then tests-ledger (b .ledger) then tests-titles (b .titles) then tests-rules b
+in-step pair (MoveOut j h f) b =
+    tests-number (j .0) then tests-ledger (b .ledger) then tests-titles pair (b .titles) then tests-rules pair b
     then tests-full (kindAt b (j .0)) then tests-away (stateAt b (contentAt b (j .0))) then tests-move (factsAt b (j .0)) then tests-same h _
-    then tests-both (tests-other _ _) (tests-other _ _) then end
-in-step (MoveIn c j h) b =
-    tests-number (c .0) then tests-number (j .0) then tests-ledger (b .ledger) then tests-titles (b .titles) then tests-rules b
+    then tests-both (tests-other _ _) (tests-sti-key pair _ _) then end
+in-step pair (MoveIn c j h) b =
+    tests-number (c .0) then tests-number (j .0) then tests-ledger (b .ledger) then tests-titles pair (b .titles) then tests-rules pair b
     then tests-free (kindAt b (j .0)) then tests-here (stateAt b (c .0)) then tests-move (rowFacts b (c .0)) then tests-copies (c .0) b then end
-in-step (Delete j f) b =
+in-step pair (Delete j f) b =
     let k = kindAt b (j .0) in
-    tests-number (j .0) then tests-ledger (b .ledger) then tests-titles (b .titles) then tests-rules b
+    tests-number (j .0) then tests-ledger (b .ledger) then tests-titles pair (b .titles) then tests-rules pair b
     then tests-either k then tests-if-full k (tests-away (stateAt b (contentAt b (j .0))))
-    then tests-both (tests-other _ _) (tests-if-full k (tests-other _ _)) then end
+    then tests-both (tests-other _ _) (tests-if-full k (tests-sti-key pair _ _)) then end
 
-module _ (k : Request) (b : Buffers) where
+module _ (pair : Pair) (k : Request) (b : Buffers) where
   -- a call is done where its needs are met, and else answered by the first that is not
-  pub answered : AnsweredBy (needsOf k b) (perform k b .answer)
-  answered = answered-by (in-step k b) (none-is-0 k b) (answer-first k b)
+  pub answered : AnsweredBy (needsOf pair k b) (perform pair k b .answer)
+  answered = answered-by (in-step pair k b) (none-is-0 pair k b) (answer-first pair k b)
 
   -- its needs by their names: where no condition holds, and where it is done
-  pub needs-where : NoneHolds (conditions k b) → Named k b
-  needs-where none = named k b (all-met (in-step k b) none)
+  pub needs-where : NoneHolds (conditions pair k b) → Named pair k b
+  needs-where none = named pair k b (all-met (in-step pair k b) none)
 
-  pub needs-met : perform k b .answer ≡ 0 → Named k b
-  needs-met done = named k b (answered .only-done done)
+  pub needs-met : perform pair k b .answer ≡ 0 → Named pair k b
+  needs-met done = named pair k b (answered .only-done done)
 
 -- THE PLACES of a call whose needs are met
 
@@ -313,7 +323,7 @@ pub record OnCard (b : Buffers) (j : ℕ) : Type 0 where
   pub titles-long : length (b .titles) ≡ 16000
   pub rules-long : length (b .rules) ≡ 32000
 
-pub found : (b : Buffers) (j : ℕ) → Within 999 j → HeadsPass b → OnCard b j
+pub found : {pair : Pair} (b : Buffers) (j : ℕ) → Within 999 j → HeadsPass pair b → OnCard b j
 found b j in-table p =
     record {
       entry = in-table;
@@ -332,14 +342,14 @@ CardOf (MoveOut j h f) b = OnCard b (j .0)
 CardOf (MoveIn c j h) b = OnCard b (j .0)
 CardOf (Delete j f) b = OnCard b (j .0)
 
-pub on-card : (k : Request) (b : Buffers) → Named k b → CardOf k b
-on-card (Register c f) b n = tt
-on-card (Record c j f h) b n = found b (j .0) (n .entry) (n .heads)
-on-card (CheckOut c j) b n = found b (j .0) (n .entry) (n .heads)
-on-card (CheckIn j f1) b n = found b (j .0) (n .entry) (n .heads)
-on-card (MoveOut j h f) b n = found b (j .0) (n .entry) (n .heads)
-on-card (MoveIn c j h) b n = found b (j .0) (n .entry) (n .heads)
-on-card (Delete j f) b n = found b (j .0) (n .entry) (n .heads)
+pub on-card : (pair : Pair) (k : Request) (b : Buffers) → Named pair k b → CardOf k b
+on-card pair (Register c f) b n = tt
+on-card pair (Record c j f h) b n = found b (j .0) (n .entry) (n .heads)
+on-card pair (CheckOut c j) b n = found b (j .0) (n .entry) (n .heads)
+on-card pair (CheckIn j f1) b n = found b (j .0) (n .entry) (n .heads)
+on-card pair (MoveOut j h f) b n = found b (j .0) (n .entry) (n .heads)
+on-card pair (MoveIn c j h) b n = found b (j .0) (n .entry) (n .heads)
+on-card pair (Delete j f) b n = found b (j .0) (n .entry) (n .heads)
 
 -- a row in one of these states is in a state, and so one of the ledger's
 abbrev InState : RowState → Bool
@@ -362,11 +372,11 @@ RowOf (MoveOut j h f) b = IsRow (b .ledger) (contentAt b (j .0))
 RowOf (MoveIn c j h) b = IsRow (b .ledger) (c .0)
 RowOf (Delete j f) b = Unit {0}
 
-pub its-row : (k : Request) (b : Buffers) → Named k b → RowOf k b
-its-row (Register c f) b n = row-in b (c .0) Empty refl (n .ledger) (n .empty)
-its-row (Record c j f h) b n = row-in b (c .0) Empty refl (n .heads .ledger) (n .empty)
-its-row (CheckOut c j) b n = row-in b (c .0) (Here (rowFacts b (c .0))) refl (n .heads .ledger) (n .here)
-its-row (CheckIn j f1) b n = let c = contentAt b (j .0) in row-in b c (Here (rowFacts b c)) refl (n .heads .ledger) (n .here)
-its-row (MoveOut j h f) b n = row-in b (contentAt b (j .0)) Away refl (n .heads .ledger) (n .away)
-its-row (MoveIn c j h) b n = row-in b (c .0) (Here (rowFacts b (c .0))) refl (n .heads .ledger) (n .here)
-its-row (Delete j f) b n = tt
+pub its-row : (pair : Pair) (k : Request) (b : Buffers) → Named pair k b → RowOf k b
+its-row pair (Register c f) b n = row-in b (c .0) Empty refl (n .ledger) (n .empty)
+its-row pair (Record c j f h) b n = row-in b (c .0) Empty refl (n .heads .ledger) (n .empty)
+its-row pair (CheckOut c j) b n = row-in b (c .0) (Here (rowFacts b (c .0))) refl (n .heads .ledger) (n .here)
+its-row pair (CheckIn j f1) b n = let c = contentAt b (j .0) in row-in b c (Here (rowFacts b c)) refl (n .heads .ledger) (n .here)
+its-row pair (MoveOut j h f) b n = row-in b (contentAt b (j .0)) Away refl (n .heads .ledger) (n .away)
+its-row pair (MoveIn c j h) b n = row-in b (c .0) (Here (rowFacts b (c .0))) refl (n .heads .ledger) (n .here)
+its-row pair (Delete j f) b n = tt

@@ -8,6 +8,7 @@ use mathlib.Core.Bool.{Bool, true, false, not, _&&_, _||_, cond, true≢false}
 use native.Mathlib.Decide.{ℕ-discrete}
 use lib.Dec.{eqb}
 use borrow.Author.Tests.{eq-eqb, ne-eqb, eqb-false, not-true}
+use Rattle.formats.specs.declared.head.Pair.{Pair}
 use Rattle.formats.specs.Refusal.{unless as answer}
 use Rattle.requests.specs.declared.request.Request.{Request}
 use Rattle.requests.specs.declared.request.Request.the-variants.{Register, Record, CheckOut, CheckIn, MoveOut, MoveIn, Delete}
@@ -185,50 +186,50 @@ either-way {answer = answer} P d found made-so =
 -- THE CALLS
 
 -- they check these numbers
-numbers-checked : (k : Request) (b : Buffers) → numbersOf (conditions k b) ≡ checked k
+numbers-checked : (pair : Pair) (k : Request) (b : Buffers) → numbersOf (conditions pair k b) ≡ checked k
 unfolding conditions
-numbers-checked (Register c f) b = refl
-numbers-checked (Record c j f h) b = refl
-numbers-checked (CheckOut c j) b = refl
-numbers-checked (CheckIn j f1) b = refl
-numbers-checked (MoveOut j h f) b = refl
-numbers-checked (MoveIn c j h) b = refl
-numbers-checked (Delete j f) b = refl
+numbers-checked pair (Register c f) b = refl
+numbers-checked pair (Record c j f h) b = refl
+numbers-checked pair (CheckOut c j) b = refl
+numbers-checked pair (CheckIn j f1) b = refl
+numbers-checked pair (MoveOut j h f) b = refl
+numbers-checked pair (MoveIn c j h) b = refl
+numbers-checked pair (Delete j f) b = refl
 
 -- of which none is 0
-pub none-is-0 : (k : Request) (b : Buffers) → refusing (conditions k b) ≡ true
+pub none-is-0 : (pair : Pair) (k : Request) (b : Buffers) → refusing (conditions pair k b) ≡ true
 unfolding conditions
-none-is-0 (Register c f) b = refl
-none-is-0 (Record c j f h) b = refl
-none-is-0 (CheckOut c j) b = refl
-none-is-0 (CheckIn j f1) b = refl
-none-is-0 (MoveOut j h f) b = refl
-none-is-0 (MoveIn c j h) b = refl
-none-is-0 (Delete j f) b = refl
+none-is-0 pair (Register c f) b = refl
+none-is-0 pair (Record c j f h) b = refl
+none-is-0 pair (CheckOut c j) b = refl
+none-is-0 pair (CheckIn j f1) b = refl
+none-is-0 pair (MoveOut j h f) b = refl
+none-is-0 pair (MoveIn c j h) b = refl
+none-is-0 pair (Delete j f) b = refl
 
-module _ (k : Request) (b : Buffers) where
+module _ (pair : Pair) (k : Request) (b : Buffers) where
   -- a call answers what the first of its conditions that holds says
-  pub answer-first : perform k b .answer ≡ first (conditions k b)
+  pub answer-first : perform pair k b .answer ≡ first (conditions pair k b)
   unfolding perform refusal
   answer-first = refl
 
   -- "Each number is returned on its condition and on no other."
-  pub refused-by : (n : ℕ) → n ≢ 0 → perform k b .answer ≡ n → meets n (conditions k b) ≡ true
-  refused-by n some e = only-met n (conditions k b) some (sym answer-first ∙ e)
+  pub refused-by : (n : ℕ) → n ≢ 0 → perform pair k b .answer ≡ n → meets n (conditions pair k b) ≡ true
+  refused-by n some e = only-met n (conditions pair k b) some (sym answer-first ∙ e)
 
   -- Demand 1: a call that meets a condition gets the number of the first one and changes nothing; every other call is done
-  pub call-refused-first : RefusedFirst Buffers (checked k) (conditions k b) (perform k b .answer) b (perform k b .buffers) (effect k b)
+  pub call-refused-first : RefusedFirst Buffers (checked k) (conditions pair k b) (perform pair k b .answer) b (perform pair k b .buffers) (effect k b)
   unfolding perform
-  call-refused-first = refused-first (conditions k b) (numbers-checked k b) (none-is-0 k b) answer-first refl
+  call-refused-first = refused-first (conditions pair k b) (numbers-checked pair k b) (none-is-0 pair k b) answer-first refl
 
   -- refused, it changes no byte
-  pub unchanged : perform k b .answer ≢ 0 → perform k b .buffers ≡ b
+  pub unchanged : perform pair k b .answer ≢ 0 → perform pair k b .buffers ≡ b
   unchanged = call-refused-first .unchanged
 
   -- done, it leaves its effect
-  pub carried-out : perform k b .answer ≡ 0 → perform k b .buffers ≡ effect k b
+  pub carried-out : perform pair k b .answer ≡ 0 → perform pair k b .buffers ≡ effect k b
   carried-out = call-refused-first .carried-out
 
   -- done, none of its conditions holds
-  pub none-holds : perform k b .answer ≡ 0 → NoneHolds (conditions k b)
+  pub none-holds : perform pair k b .answer ≡ 0 → NoneHolds (conditions pair k b)
   none-holds = call-refused-first .only-accepted

@@ -8,6 +8,7 @@ use mathlib.Core.List.{List, [], _∷_, _++_, map, append-nil, append-assoc}
 use mathlib.Core.Option.{some}
 use native.Mathlib.Omega.{arith}
 use native.Mathlib.Decide.{ℕ-discrete}
+use Rattle.formats.specs.declared.head.Pair.{Pair}
 use Rattle.formats.specs.Entry.{kindOf, entryFacts}
 use Rattle.formats.specs.Row.{hereRow}
 use Rattle.formats.specs.declared.facts.Facts.{Facts}
@@ -35,9 +36,9 @@ use Rattle.calls.proofs.Fresh.{fresh-empty, fresh-free, fresh-bytes, fr
 -- WHAT THE CALLS FIND
 
 -- tables that are right, and no entry in use but 7
-record Open (b : Buffers) : Type 0 where
+record Open (pair : Pair) (b : Buffers) : Type 0 where
   bytes : AreBytes b
-  heads : HeadsPass b
+  heads : HeadsPass pair b
   free : (i : ℕ) → Within 999 i → i ≢ 7 → kindAt b i ≡ Free
 
 -- title 1 has these facts, with one move right and so many permits
@@ -50,31 +51,31 @@ record Title1 (f : Facts) (permits : ℕ) : Type 0 where
   sti-key : f .«sti_key» ≡ 6
 
 -- title 1 is in its row
-record Standing (b : Buffers) (permits : ℕ) : Type 0 where
-  tables : Open b
+record Standing (pair : Pair) (b : Buffers) (permits : ℕ) : Type 0 where
+  tables : Open pair b
   here : stateAt b 1 ≡ Here (rowFacts b 1)
   facts : Title1 (rowFacts b 1) permits
 
 -- no entry is in use
-record Home (b : Buffers) (permits : ℕ) : Type 0 where
-  standing : Standing b permits
+record Home (pair : Pair) (b : Buffers) (permits : ℕ) : Type 0 where
+  standing : Standing pair b permits
   free-7 : kindAt b 7 ≡ Free
 
 -- or entry 7 has its copy
-record Lent (b : Buffers) : Type 0 where
-  standing : Standing b 0
+record Lent (pair : Pair) (b : Buffers) : Type 0 where
+  standing : Standing pair b 0
   copy : kindAt b 7 ≡ Copy
   id : contentAt b 7 ≡ 1
   key : titleKey b 7 ≡ 5
 
 -- or the title is on the card, in entry 7 as it was recorded, or in entry 9
-record AtSeven (b : Buffers) : Type 0 where
-  tables : Open b
+record AtSeven (pair : Pair) (b : Buffers) : Type 0 where
+  tables : Open pair b
   away : stateAt b 1 ≡ Away
   entry : FullEntry b 7 1 twoMoves 3
 
-record AtNine (b : Buffers) : Type 0 where
-  heads : HeadsPass b
+record AtNine (pair : Pair) (b : Buffers) : Type 0 where
+  heads : HeadsPass pair b
   away : stateAt b 1 ≡ Away
   full : kindAt b 9 ≡ Full
   id : contentAt b 9 ≡ 1
@@ -94,16 +95,16 @@ nine : Within 999 9
 nine = record { from = omega arith; to = omega arith }
 
 -- the tables stay right, and entries other than 7 free, where entry 7 is written
-open-after : (k : Request) (b : Buffers) → titleWritten k ≡ some 7 → Open b → Open (perform k b .buffers)
-open-after k b written o =
-    record { bytes = in-bounds k b .stay-bytes (o .bytes); heads = heads-kept k b (o .heads); free = λ i l ne. same i l ne ∙ o .free i l ne }
+open-after : (pair : Pair) (k : Request) (b : Buffers) → titleWritten k ≡ some 7 → Open pair b → Open pair (perform pair k b .buffers)
+open-after pair k b written o =
+    record { bytes = in-bounds pair k b .stay-bytes (o .bytes); heads = heads-kept pair k b (o .heads); free = λ i l ne. same i l ne ∙ o .free i l ne }
   where
-    same : (i : ℕ) → Within 999 i → i ≢ 7 → kindAt (perform k b .buffers) i ≡ kindAt b i
+    same : (i : ℕ) → Within 999 i → i ≢ 7 → kindAt (perform pair k b .buffers) i ≡ kindAt b i
     same i l ne =
         let c = found b i l (o .heads) in
-        let u = untouched k b in
+        let u = untouched pair k b in
         let other : titleWritten k ≢ some i = λ e. let number : _≡_ {A = ℕ} 7 i = cc in ne (sym number) in
-        kind-else b (perform k b .buffers) (u .titles) (u .rules) (c .titles-long) (c .rules-long) i l other (rule-with-title k b i other)
+        kind-else b (perform pair k b .buffers) (u .titles) (u .rules) (c .titles-long) (c .rules-long) i l other (rule-with-title k b i other)
 
 -- title 1 with other permits
 with-permits : {f g : Facts} {p q r : ℕ} → Title1 f p → Recounted f (f .rights) r g → r ≡ q → Title1 g q
@@ -129,69 +130,69 @@ keys-in b j = (refl, refl)
 -- EACH CALL
 
 -- the call is done, and leaves what the next one finds
-record Goes (k : Request) (b : Buffers) (P : Buffers → Type 0) : Type 0 where
-  done : perform k b .answer ≡ 0
-  after : P (perform k b .buffers)
+record Goes (pair : Pair) (k : Request) (b : Buffers) (P : Buffers → Type 0) : Type 0 where
+  done : perform pair k b .answer ≡ 0
+  after : P (perform pair k b .buffers)
 
 -- answers one after another: those of the rest come after the first
-in-turn : (ks : List Request) (w : Run) → inOrder (run ks w .log) ≡ inOrder (w .log) ++ inOrder (run ks (from (w .buffers)) .log)
+in-turn : (pair : Pair) (ks : List Request) (w : Run) → inOrder (run pair ks w .log) ≡ inOrder (w .log) ++ inOrder (run pair ks (from (w .buffers)) .log)
 unfolding run inOrder
-in-turn [] w = sym (append-nil _)
-in-turn (k ∷ ks) w =
-    in-turn ks (next k w)
+in-turn pair [] w = sym (append-nil _)
+in-turn pair (k ∷ ks) w =
+    in-turn pair ks (next pair k w)
     ∙ append-assoc (inOrder (w .log)) _ _
-    ∙ ap (λ (l : Log). inOrder (w .log) ++ l) (sym (in-turn ks (next k (from (w .buffers)))))
+    ∙ ap (λ (l : Log). inOrder (w .log) ++ l) (sym (in-turn pair ks (next pair k (from (w .buffers)))))
 
-answers-next : (k : Request) (ks : List Request) (b : Buffers) → answers (k ∷ ks) b ≡ perform k b .answer ∷ answers ks (perform k b .buffers)
+answers-next : (pair : Pair) (k : Request) (ks : List Request) (b : Buffers) → answers pair (k ∷ ks) b ≡ perform pair k b .answer ∷ answers pair ks (perform pair k b .buffers)
 unfolding run inOrder
-answers-next k ks b = ap (map (λ (a : Answered). a .answer)) (in-turn ks (next k (from b)))
+answers-next pair k ks b = ap (map (λ (a : Answered). a .answer)) (in-turn pair ks (next pair k (from b)))
 
 -- and so are those after it
-on : (k : Request) (ks : List Request) (b : Buffers) {P : Buffers → Type 0} {ns : List ℕ} → Goes k b P → ((c : Buffers) → P c → answers ks c ≡ ns) → answers (k ∷ ks) b ≡ 0 ∷ ns
-on k ks b g rest = answers-next k ks b ∙ ap₂ (λ (x : ℕ) (l : List ℕ). x ∷ l) (g .done) (rest (perform k b .buffers) (g .after))
+on : (pair : Pair) (k : Request) (ks : List Request) (b : Buffers) {P : Buffers → Type 0} {ns : List ℕ} → Goes pair k b P → ((c : Buffers) → P c → answers pair ks c ≡ ns) → answers pair (k ∷ ks) b ≡ 0 ∷ ns
+on pair k ks b g rest = answers-next pair k ks b ∙ ap₂ (λ (x : ℕ) (l : List ℕ). x ∷ l) (g .done) (rest (perform pair k b .buffers) (g .after))
 
 -- a refused call leaves what it found
-on-refused : (k : Request) (ks : List Request) (b : Buffers) {n : ℕ} {ns : List ℕ} → perform k b .answer ≡ n → n ≢ 0 → answers ks b ≡ ns → answers (k ∷ ks) b ≡ n ∷ ns
-on-refused k ks b e other rest = answers-next k ks b ∙ ap₂ (λ (x : ℕ) (l : List ℕ). x ∷ l) e (ap (answers ks) (unchanged k b (λ z. other (sym e ∙ z))) ∙ rest)
+on-refused : (pair : Pair) (k : Request) (ks : List Request) (b : Buffers) {n : ℕ} {ns : List ℕ} → perform pair k b .answer ≡ n → n ≢ 0 → answers pair ks b ≡ ns → answers pair (k ∷ ks) b ≡ n ∷ ns
+on-refused pair k ks b e other rest = answers-next pair k ks b ∙ ap₂ (λ (x : ℕ) (l : List ℕ). x ∷ l) e (ap (answers pair ks) (unchanged pair k b (λ z. other (sym e ∙ z))) ∙ rest)
 
-last : (k : Request) (b : Buffers) → perform k b .answer ≡ 0 → answers (k ∷ []) b ≡ 0 ∷ []
+last : (pair : Pair) (k : Request) (b : Buffers) → perform pair k b .answer ≡ 0 → answers pair (k ∷ []) b ≡ 0 ∷ []
 unfolding run inOrder
-last k b e = ap (λ (x : ℕ). x ∷ []) e
+last pair k b e = ap (λ (x : ℕ). x ∷ []) e
 
 -- 1 register, on a fresh ledger and card: its row is here, other rows are empty, and no entry is in use
-record Registered (c : ℕ) (f : Facts) (b : Buffers) : Type 0 where
+record Registered (pair : Pair) (c : ℕ) (f : Facts) (b : Buffers) : Type 0 where
   bytes : AreBytes b
-  heads : HeadsPass b
+  heads : HeadsPass pair b
   row : stateAt b c ≡ Here f
   others : (d : ℕ) → Within 64 d → d ≢ c → stateAt b d ≡ Empty
   free : (i : ℕ) → Within 999 i → kindAt b i ≡ Free
 
-registered : (c : ℕ) (f : Facts) → Within 64 c → FactsInRange f → Goes (registration c f) (fresh 64 0 0) (Registered c f)
-registered c f is in-range =
-    let b = fresh 64 0 0 in
+registered : (pair : Pair) (c : ℕ) (f : Facts) → Within 64 c → FactsInRange f → Goes pair (registration c f) (fresh pair 64 0 0) (Registered pair c f)
+registered pair c f is in-range =
+    let b = fresh pair 64 0 0 in
     let k = registration c f in
-    let p = fresh-heads 64 0 (omega arith) (omega arith) (omega arith) in
-    let n : Needs k b =
-    unnamed k b
+    let p = fresh-heads pair 64 0 (omega arith) (omega arith) (omega arith) in
+    let n : Needs pair k b =
+    unnamed pair k b
     (record {
       content = record { from = is .from; to = omega (arith, is .to) };
       facts = in-range;
       ledger = p .ledger;
-      empty = fresh-empty 64 0 0 (omega arith) c is;
+      empty = fresh-empty pair 64 0 0 (omega arith) c is;
     }) in
-    let w = work-is-done k b in
-    let l = w .leaves (fresh-bytes 64 0 0) n in
+    let w = work-is-done pair k b in
+    let l = w .leaves (fresh-bytes pair 64 0 0) n in
     record {
       done = w .answered .done n;
       after =
           record {
-            bytes = in-bounds k b .stay-bytes (fresh-bytes 64 0 0);
-            heads = heads-kept k b p;
+            bytes = in-bounds pair k b .stay-bytes (fresh-bytes pair 64 0 0);
+            heads = heads-kept pair k b p;
             row = l .row .reads;
             others = λ d there ne.
                 row-else (w .untouched .rows) (p .ledger) d (λ e. let same : _≡_ {A = ℕ} c d = cc in ne (sym same))
-                ∙ fresh-empty 64 0 0 (omega arith) d there;
-            free = λ i m. ap₂ (λ (t r : List ℕ). kindOf (titleAt t i) (ruleAt r i)) (l .titles) (l .rules) ∙ fresh-free 64 0 0 i m;
+                ∙ fresh-empty pair 64 0 0 (omega arith) d there;
+            free = λ i m. ap₂ (λ (t r : List ℕ). kindOf (titleAt t i) (ruleAt r i)) (l .titles) (l .rules) ∙ fresh-free pair 64 0 0 i m;
           };
     }
 
@@ -209,11 +210,11 @@ in-range rights few =
     }
 
 -- 2 record, to entry 7
-recorded : (b : Buffers) → Registered 2 sampleFacts b → Goes recording b AtSeven
-recorded b s =
-    let o : Open b = record { bytes = s .bytes; heads = s .heads; free = λ i l ne. s .free i l } in
-    let n : Needs recording b =
-    unnamed recording b
+recorded : (pair : Pair) (b : Buffers) → Registered pair 2 sampleFacts b → Goes pair recording b (AtSeven pair)
+recorded pair b s =
+    let o : Open pair b = record { bytes = s .bytes; heads = s .heads; free = λ i l ne. s .free i l } in
+    let n : Needs pair recording b =
+    unnamed pair recording b
     (record {
       content = one;
       entry = seven;
@@ -222,17 +223,17 @@ recorded b s =
       free = s .free 7 seven;
       empty = s .others 1 (record { from = omega arith; to = omega arith }) (λ e. omega arith);
     }) in
-    let w = work-is-done recording b in
+    let w = work-is-done pair recording b in
     let l = w .leaves (s .bytes) n in
-    record { done = w .answered .done n; after = record { tables = open-after recording b refl o; away = l .row .reads; entry = l .entry } }
+    record { done = w .answered .done n; after = record { tables = open-after pair recording b refl o; away = l .row .reads; entry = l .entry } }
 
 -- 5 move out
-moved-out : (b : Buffers) → AtSeven b → Goes moveOut b (λ c. Home c 1)
+moved-out : (pair : Pair) (b : Buffers) → AtSeven pair b → Goes pair moveOut b (λ c. Home pair c 1)
 unfolding oneLess
-moved-out b s =
+moved-out pair b s =
     let e = s .entry in
-    let n : Needs moveOut b =
-    unnamed moveOut b
+    let n : Needs pair moveOut b =
+    unnamed pair moveOut b
     (record {
       entry = seven;
       heads = s .tables .heads;
@@ -241,19 +242,19 @@ moved-out b s =
       may-move = rw (e .facts) record { not-triggered = λ z. omega arith; right-left = λ z. omega arith };
       hash = sym (e .hash (omega arith));
       title-key = λ z. let x : _≡_ {A = ℕ} 9 5 = z ∙ keys-in b 7 .0 ∙ ap (λ (f : Facts). f .«title_key») (e .facts) in omega arith;
-      sti-key = λ z. let x : _≡_ {A = ℕ} 9 6 = z ∙ keys-in b 7 .1 ∙ ap (λ (f : Facts). f .«sti_key») (e .facts) in omega arith;
+      sti-key = λ audio z. let x : _≡_ {A = ℕ} 9 6 = z ∙ keys-in b 7 .1 ∙ ap (λ (f : Facts). f .«sti_key») (e .facts) in omega arith;
     }) in
-    let w = work-is-done moveOut b in
+    let w = work-is-done pair moveOut b in
     let l = w .leaves (s .tables .bytes) n in
-    let row : RowIs (perform moveOut b .buffers) 1 (Here (rowFacts (perform moveOut b .buffers) 1)) (hereRow (rowFacts (perform moveOut b .buffers) 1)) = rw (e .id) at (l .row) in
-    let facts : Recounted twoMoves 1 1 (rowFacts (perform moveOut b .buffers) 1) = rw (e .id, e .facts) at (l .facts) in
+    let row : RowIs (perform pair moveOut b .buffers) 1 (Here (rowFacts (perform pair moveOut b .buffers) 1)) (hereRow (rowFacts (perform pair moveOut b .buffers) 1)) = rw (e .id) at (l .row) in
+    let facts : Recounted twoMoves 1 1 (rowFacts (perform pair moveOut b .buffers) 1) = rw (e .id, e .facts) at (l .facts) in
     record {
       done = w .answered .done n;
       after =
           record {
             standing =
                 record {
-                  tables = open-after moveOut b refl (s .tables);
+                  tables = open-after pair moveOut b refl (s .tables);
                   here = row .reads;
                   facts =
                       record {
@@ -270,16 +271,16 @@ moved-out b s =
     }
 
 -- 3 check-out to entry 7
-lent-out : (b : Buffers) → Home b 1 → Goes (checkOut 1 7) b Lent
+lent-out : (pair : Pair) (b : Buffers) → Home pair b 1 → Goes pair (checkOut 1 7) b (Lent pair)
 unfolding oneLess
-lent-out b h =
+lent-out pair b h =
     let k = checkOut 1 7 in
     let s = h .standing in
     let o = s .tables in
-    let n : Needs k b =
-    unnamed k b
+    let n : Needs pair k b =
+    unnamed pair k b
     (record { content = one; entry = seven; heads = o .heads; free = h .free-7; here = s .here; permit-left = λ e. omega (arith, s .facts .permits-are) }) in
-    let w = work-is-done k b in
+    let w = work-is-done pair k b in
     let l = w .leaves (o .bytes) n in
     record {
       done = w .answered .done n;
@@ -287,7 +288,7 @@ lent-out b h =
           record {
             standing =
                 record {
-                  tables = open-after k b refl o;
+                  tables = open-after pair k b refl o;
                   here = l .row .here;
                   facts = with-permits (s .facts) (l .row .facts) (ap oneLess (s .facts .permits-are));
                 };
@@ -298,12 +299,12 @@ lent-out b h =
     }
 
 -- 4 check-in of entry 7
-checked-in : (b : Buffers) → Lent b → Goes checkIn b (λ c. Home c 1)
+checked-in : (pair : Pair) (b : Buffers) → Lent pair b → Goes pair checkIn b (λ c. Home pair c 1)
 unfolding oneMore
-checked-in b s =
+checked-in pair b s =
     let i = s .standing in
-    let n : Needs checkIn b =
-    unnamed checkIn b
+    let n : Needs pair checkIn b =
+    unnamed pair checkIn b
     (record {
       entry = seven;
       heads = i .tables .heads;
@@ -312,16 +313,16 @@ checked-in b s =
       not-14 = rw (s .id) (λ e. omega (arith, i .facts .permits-are));
       title-key = λ e. let z : _≡_ {A = ℕ} 9 5 = e ∙ s .key in omega arith;
     }) in
-    let w = work-is-done checkIn b in
+    let w = work-is-done pair checkIn b in
     let l = w .leaves (i .tables .bytes) n in
-    let row : PermitsBecome b (perform checkIn b .buffers) 1 (oneMore (rowFacts b 1 .permits)) = rw (s .id) at (l .row) in
+    let row : PermitsBecome b (perform pair checkIn b .buffers) 1 (oneMore (rowFacts b 1 .permits)) = rw (s .id) at (l .row) in
     record {
       done = w .answered .done n;
       after =
           record {
             standing =
                 record {
-                  tables = open-after checkIn b refl (i .tables);
+                  tables = open-after pair checkIn b refl (i .tables);
                   here = row .here;
                   facts = with-permits (i .facts) (row .facts) (ap oneMore (i .facts .permits-are));
                 };
@@ -330,32 +331,32 @@ checked-in b s =
     }
 
 -- 7 delete, of the copy in entry 7
-copy-deleted : (b : Buffers) → Lent b → Goes (deletion 7) b (λ c. Home c 0)
-copy-deleted b s =
+copy-deleted : (pair : Pair) (b : Buffers) → Lent pair b → Goes pair (deletion 7) b (λ c. Home pair c 0)
+copy-deleted pair b s =
     let k = deletion 7 in
     let i = s .standing in
-    let n : Needs k b =
-    unnamed k b
+    let n : Needs pair k b =
+    unnamed pair k b
     (record { entry = seven; heads = i .tables .heads; deletable = a-copy (s .copy); title-key = λ e. let z : _≡_ {A = ℕ} 9 5 = e ∙ s .key in omega arith }) in
-    let w = work-is-done k b in
+    let w = work-is-done pair k b in
     let l = w .leaves (i .tables .bytes) n .of-copy (s .copy) in
     record {
       done = w .answered .done n;
       after =
           record {
-            standing = record { tables = open-after k b refl (i .tables); here = rw (l .ledger) (i .here); facts = rw (l .ledger) (i .facts) };
+            standing = record { tables = open-after pair k b refl (i .tables); here = rw (l .ledger) (i .here); facts = rw (l .ledger) (i .facts) };
             free-7 = l .free;
           };
     }
 
 -- 6 move in to entry 9, with no copy out
-moved-in : (b : Buffers) (permits : ℕ) → Home b permits → Goes moveIn b AtNine
-moved-in b permits h =
+moved-in : (pair : Pair) (b : Buffers) (permits : ℕ) → Home pair b permits → Goes pair moveIn b (AtNine pair)
+moved-in pair b permits h =
     let s = h .standing in
     let o = s .tables in
     let all-free : (i : ℕ) → Within 999 i → kindAt b i ≡ Free = λ i l. elim (ℕ-discrete i 7) [ yes e ↦ rw e (h .free-7) | no ne ↦ o .free i l ne ] in
-    let n : Needs moveIn b =
-    unnamed moveIn b
+    let n : Needs pair moveIn b =
+    unnamed pair moveIn b
     (record {
       content = one;
       entry = nine;
@@ -365,14 +366,14 @@ moved-in b permits h =
       may-move = may-move-1 (s .facts);
       no-copy = λ i l copy. let z : _≡_ {A = ℕ} 0 1 = cc (all-free i l) in absurd (omega arith);
     }) in
-    let w = work-is-done moveIn b in
+    let w = work-is-done pair moveIn b in
     let l = w .leaves (o .bytes) n in
-    let after = perform moveIn b .buffers in
+    let after = perform pair moveIn b .buffers in
     record {
       done = w .answered .done n;
       after =
           record {
-            heads = heads-kept moveIn b (o .heads);
+            heads = heads-kept pair moveIn b (o .heads);
             away = l .row .reads;
             full = l .entry .full;
             id = l .entry .id;
@@ -382,14 +383,14 @@ moved-in b permits h =
     }
 
 -- 7 delete, of the title in entry 9
-holder-deleted : (b : Buffers) → AtNine b → perform (deletion 9) b .answer ≡ 0
-holder-deleted b s =
-    work-is-done (deletion 9) b .answered .done
-    (unnamed (deletion 9) b
+holder-deleted : (pair : Pair) (b : Buffers) → AtNine pair b → perform pair (deletion 9) b .answer ≡ 0
+holder-deleted pair b s =
+    work-is-done pair (deletion 9) b .answered .done
+    (unnamed pair (deletion 9) b
     (record {
       entry = nine;
       heads = s .heads;
-      deletable = a-holder (s .full) (rw (s .id) (s .away)) (λ e. let z : _≡_ {A = ℕ} 9 6 = e ∙ s .sti-key in omega arith);
+      deletable = a-holder (s .full) (rw (s .id) (s .away)) (λ audio e. let z : _≡_ {A = ℕ} 9 6 = e ∙ s .sti-key in omega arith);
       title-key = λ e. let z : _≡_ {A = ℕ} 9 5 = e ∙ s .title-key in omega arith;
     }))
 
@@ -404,28 +405,28 @@ unmet : {A C : Type 0} {n : ℕ} → (A → ⊥) → ((A → ⊥) × (n ≡ n)) 
 unmet h = inl (h, refl)
 
 -- 6 move in, while the copy is out
-move-in-refused : (b : Buffers) → Lent b → perform moveIn b .answer ≡ 14
-move-in-refused b s =
+move-in-refused : (pair : Pair) (b : Buffers) → Lent pair b → perform pair moveIn b .answer ≡ 14
+move-in-refused pair b s =
     let i = s .standing in
     let p = i .tables .heads in
-    work-is-done moveIn b .answered .refused 14
+    work-is-done pair moveIn b .answered .refused 14
     (one met-then nine met-then p .ledger met-then p .titles met-then p .rules met-then i .tables .free 9 nine (λ e. omega arith)
     met-then i .here met-then may-move-1 (i .facts) met-then unmet (λ none. none 7 seven (s .copy) (s .id)))
 
 -- 3 check-out, with no permit left
-check-out-refused : (b : Buffers) → Lent b → perform (checkOut 1 8) b .answer ≡ 12
-check-out-refused b s =
+check-out-refused : (pair : Pair) (b : Buffers) → Lent pair b → perform pair (checkOut 1 8) b .answer ≡ 12
+check-out-refused pair b s =
     let i = s .standing in
     let p = i .tables .heads in
-    work-is-done (checkOut 1 8) b .answered .refused 12
+    work-is-done pair (checkOut 1 8) b .answered .refused 12
     (one met-then eight met-then p .ledger met-then p .titles met-then p .rules met-then i .tables .free 8 eight (λ e. omega arith)
     met-then i .here met-then unmet (λ left. left (i .facts .permits-are)))
 
 -- THE RUNS
 
 -- the title that was registered is at home
-at-home : (b : Buffers) → Registered 1 sampleFacts b → Home b 1
-at-home b s =
+at-home : (pair : Pair) (b : Buffers) → Registered pair 1 sampleFacts b → Home pair b 1
+at-home pair b s =
     let facts = ap hereFacts (s .row) in
     record {
       standing =
@@ -441,20 +442,20 @@ in-ledger : (c : ℕ) → 1 ≤ c → c ≤ 64 → Within 64 c
 in-ledger c low high = record { from = low; to = high }
 
 pub sample-run : SampleRun
-sample-run =
-    on (registration 1 sampleFacts) _ (fresh 64 0 0) (registered 1 sampleFacts (in-ledger 1 (omega arith) (omega arith)) (in-range 1 (omega arith))) (λ b s.
-    on (checkOut 1 7) _ b (lent-out b (at-home b s)) (λ c l.
-    on-refused (checkOut 1 8) _ c (check-out-refused c l) (λ e. omega arith)
-    (on-refused moveIn _ c (move-in-refused c l) (λ e. omega arith)
-    (on checkIn _ c (checked-in c l) (λ d h. last moveIn d (moved-in d 1 h .done))))))
+sample-run pair =
+    on pair (registration 1 sampleFacts) _ (fresh pair 64 0 0) (registered pair 1 sampleFacts (in-ledger 1 (omega arith) (omega arith)) (in-range 1 (omega arith))) (λ b s.
+    on pair (checkOut 1 7) _ b (lent-out pair b (at-home pair b s)) (λ c l.
+    on-refused pair (checkOut 1 8) _ c (check-out-refused pair c l) (λ e. omega arith)
+    (on-refused pair moveIn _ c (move-in-refused pair c l) (λ e. omega arith)
+    (on pair checkIn _ c (checked-in pair c l) (λ d h. last pair moveIn d (moved-in pair d 1 h .done))))))
 
 pub every-call-done : EveryCallDone
-every-call-done =
-    on (registration 2 sampleFacts) _ (fresh 64 0 0) (registered 2 sampleFacts (in-ledger 2 (omega arith) (omega arith)) (in-range 1 (omega arith))) (λ b s.
-    on recording _ b (recorded b s) (λ c at.
-    on moveOut _ c (moved-out c at) (λ d h.
-    on (checkOut 1 7) _ d (lent-out d h) (λ e l.
-    on checkIn _ e (checked-in e l) (λ f i.
-    on (checkOut 1 7) _ f (lent-out f i) (λ g m.
-    on (deletion 7) _ g (copy-deleted g m) (λ o j.
-    on moveIn _ o (moved-in o 0 j) (λ q x. last (deletion 9) q (holder-deleted q x)))))))))
+every-call-done pair =
+    on pair (registration 2 sampleFacts) _ (fresh pair 64 0 0) (registered pair 2 sampleFacts (in-ledger 2 (omega arith) (omega arith)) (in-range 1 (omega arith))) (λ b s.
+    on pair recording _ b (recorded pair b s) (λ c at.
+    on pair moveOut _ c (moved-out pair c at) (λ d h.
+    on pair (checkOut 1 7) _ d (lent-out pair d h) (λ e l.
+    on pair checkIn _ e (checked-in pair e l) (λ f i.
+    on pair (checkOut 1 7) _ f (lent-out pair f i) (λ g m.
+    on pair (deletion 7) _ g (copy-deleted pair g m) (λ o j.
+    on pair moveIn _ o (moved-in pair o 0 j) (λ q x. last pair (deletion 9) q (holder-deleted pair q x)))))))))

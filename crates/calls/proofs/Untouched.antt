@@ -8,6 +8,7 @@ use mathlib.Core.Option.{none, some}
 use mathlib.Core.Bool.{Bool, true, false, cond}
 use native.Mathlib.Omega.{arith}
 use lib.ListN.{length}
+use Rattle.formats.specs.declared.head.Pair.{Pair}
 use Rattle.formats.specs.Part.{put}
 use Rattle.formats.specs.Half.{wiped}
 use Rattle.formats.specs.Rule.{wipedRule}
@@ -52,7 +53,7 @@ module _ (b : Buffers) where
 
 -- THE EFFECTS
 
-module _ (b : Buffers) where
+module _ (pair : Pair) (b : Buffers) where
   row-kept : (c : ℕ) (row : List ℕ) → IsRow (b .ledger) c → length row ≡ 24 → SlotsKept 24 (some c) (b .ledger) (put (b .ledger) (24 * c) row)
   row-kept c row is size = slots-kept 24 (b .ledger) row c (row-inside (b .ledger) c is) size (is .from)
 
@@ -62,51 +63,51 @@ module _ (b : Buffers) where
   rule-kept : (j : ℕ) (r : List ℕ) → OnCard b j → length r ≡ 32 → SlotsKept 32 (some j) (b .rules) (put (b .rules) (32 * j) r)
   rule-kept j r o size = entries-kept 32 (b .rules) (o .rules-long) r size j (o .entry)
 
-  effect-keeps : (k : Request) → Named k b → Untouched k b (effect k b)
+  effect-keeps : (k : Request) → Named pair k b → Untouched k b (effect k b)
   unfolding effect
   effect-keeps (Register c f) n =
-      record { rows = row-kept (c .0) _ (its-row (Register c f) b n) (here-length f); titles = all-kept 16 none (b .titles); rules = all-kept 32 none (b .rules) }
+      record { rows = row-kept (c .0) _ (its-row pair (Register c f) b n) (here-length f); titles = all-kept 16 none (b .titles); rules = all-kept 32 none (b .rules) }
   effect-keeps (Record c j f h) n =
-      let o = on-card (Record c j f h) b n in
+      let o = on-card pair (Record c j f h) b n in
       record {
-        rows = row-kept (c .0) _ (its-row (Record c j f h) b n) (plain-length _);
+        rows = row-kept (c .0) _ (its-row pair (Record c j f h) b n) (plain-length _);
         titles = title-kept (j .0) _ o (length-titleHalf (f .cci) (f .«title_key») (c .0));
         rules = rule-kept (j .0) _ o (length-ruleHalf f h (c .0));
       }
   effect-keeps (CheckOut c j) n =
       let f = rowFacts b (c .0) in
-      let is = its-row (CheckOut c j) b n in
+      let is = its-row pair (CheckOut c j) b n in
       record {
         rows = row-kept (c .0) _ is (permits-long b (c .0) (oneLess (f .permits)) is);
-        titles = title-kept (j .0) _ (on-card (CheckOut c j) b n) (length-titleHalf (f .cci) (f .«title_key») (c .0));
+        titles = title-kept (j .0) _ (on-card pair (CheckOut c j) b n) (length-titleHalf (f .cci) (f .«title_key») (c .0));
         rules = all-kept 32 none (b .rules);
       }
   effect-keeps (CheckIn j f1) n =
       let c = contentAt b (j .0) in
-      let is = its-row (CheckIn j f1) b n in
-      let o = on-card (CheckIn j f1) b n in
+      let is = its-row pair (CheckIn j f1) b n in
+      let o = on-card pair (CheckIn j f1) b n in
       record {
         rows = row-kept c _ is (permits-long b c (oneMore (rowFacts b c .permits)) is);
         titles = title-kept (j .0) _ o (wiped-title-long b (j .0) o f1);
         rules = all-kept 32 none (b .rules);
       }
   effect-keeps (MoveOut j h f) n =
-      let o = on-card (MoveOut j h f) b n in
+      let o = on-card pair (MoveOut j h f) b n in
       record {
-        rows = row-kept (contentAt b (j .0)) _ (its-row (MoveOut j h f) b n) (here-length (afterMove (factsAt b (j .0))));
+        rows = row-kept (contentAt b (j .0)) _ (its-row pair (MoveOut j h f) b n) (here-length (afterMove (factsAt b (j .0))));
         titles = title-kept (j .0) _ o (wiped-title-long b (j .0) o (f .f1));
         rules = rule-kept (j .0) _ o (wiped-rule-long b (j .0) o f);
       }
   effect-keeps (MoveIn c j h) n =
-      let o = on-card (MoveIn c j h) b n in
+      let o = on-card pair (MoveIn c j h) b n in
       let f = afterMove (rowFacts b (c .0)) in
       record {
-        rows = row-kept (c .0) _ (its-row (MoveIn c j h) b n) (plain-length _);
+        rows = row-kept (c .0) _ (its-row pair (MoveIn c j h) b n) (plain-length _);
         titles = title-kept (j .0) _ o (length-titleHalf (f .cci) (f .«title_key») (c .0));
         rules = rule-kept (j .0) _ o (length-ruleHalf f h (c .0));
       }
   effect-keeps (Delete j f) n =
-      let o = on-card (Delete j f) b n in
+      let o = on-card pair (Delete j f) b n in
       let c = contentAt b (j .0) in
       let title = title-kept (j .0) _ o (wiped-title-long b (j .0) o (f .f1)) in
       elim (n .deletable) [
@@ -120,25 +121,25 @@ module _ (b : Buffers) where
       ]
 
 -- a call, done or refused, leaves everything but its own row and entry as it was
-pub untouched : (k : Request) (b : Buffers) → Untouched k b (perform k b .buffers)
-untouched k b =
-    either-way (Untouched k b) (call-refused-first k b)
+pub untouched : (pair : Pair) (k : Request) (b : Buffers) → Untouched k b (perform pair k b .buffers)
+untouched pair k b =
+    either-way (Untouched k b) (call-refused-first pair k b)
     (record { rows = all-kept 24 _ (b .ledger); titles = all-kept 16 _ (b .titles); rules = all-kept 32 _ (b .rules) })
-    (λ none. effect-keeps b k (needs-where k b none))
+    (λ none. effect-keeps pair b k (needs-where pair k b none))
 
 -- heads that passed pass after it
-pub heads-kept : (k : Request) (b : Buffers) → HeadsPass b → HeadsPass (perform k b .buffers)
-heads-kept k b p =
-    let after = perform k b .buffers in
-    let l = untouched k b .rows in
-    let t = untouched k b .titles in
-    let r = untouched k b .rules in
+pub heads-kept : (pair : Pair) (k : Request) (b : Buffers) → HeadsPass pair b → HeadsPass pair (perform pair k b .buffers)
+heads-kept pair k b p =
+    let after = perform pair k b .buffers in
+    let l = untouched pair k b .rows in
+    let t = untouched pair k b .titles in
+    let r = untouched pair k b .rules in
     record {
       ledger = ledger-head (after .ledger) (ledger-kept 24 (b .ledger) (after .ledger) (l .same-length) (l .head) (omega arith) ∙ ledger-passes (p .ledger));
-      titles = titles-head (titles-kept 16 (b .titles) (after .titles) (t .same-length) (t .head) (omega arith) ∙ titles-pass (p .titles));
+      titles = titles-head (titles-kept 16 (b .titles) (after .titles) (t .same-length) (t .head) pair (omega arith) ∙ titles-pass (p .titles));
       rules =
           record {
-            head = rules-head (rules-kept 32 (b .rules) (after .rules) (r .same-length) (r .head) (omega arith) ∙ rules-pass (p .rules .head));
+            head = rules-head (rules-kept 32 (b .rules) (after .rules) (r .same-length) (r .head) pair (omega arith) ∙ rules-pass (p .rules .head));
             application =
                 rules-application-kept 32 (b .rules) (after .rules) (r .same-length) (r .head) (omega arith)
                 ∙ p .rules .application

@@ -10,6 +10,7 @@ use Rattle.formats.specs.Rule.{hashOf}
 use Rattle.formats.specs.Entry.{kindOf, entryFacts}
 use Rattle.formats.specs.Head.{rowsOf, freshLedger, freshTitles, freshRules}
 use Rattle.formats.specs.Row.{stateOf}
+use Rattle.formats.specs.declared.head.Pair.{Pair}
 use Rattle.formats.specs.declared.facts.Facts.{Facts}
 use Rattle.formats.specs.declared.entry.EntryKind.{EntryKind}
 use Rattle.formats.specs.declared.entry.EntryKind.the-variants.{Free, Copy, Full, Torn}
@@ -156,6 +157,6 @@ abbrev pub withRule : ℕ → List ℕ → Buffers → Buffers
 withRule j r b = record { ledger = b .ledger; titles = b .titles; rules = put (b .rules) (32 * j) r }
 
 -- "any freshly formatted ledger and card, whatever R and the application numbers": the ledger's number and the card's
-abbrev pub fresh : ℕ → ℕ → ℕ → Buffers
-fresh rows application cardApplication =
-    record { ledger = freshLedger rows application; titles = freshTitles; rules = freshRules cardApplication }
+abbrev pub fresh : Pair → ℕ → ℕ → ℕ → Buffers
+fresh pair rows application cardApplication =
+    record { ledger = freshLedger rows application; titles = freshTitles pair; rules = freshRules pair cardApplication }

@@ -10,7 +10,8 @@ use Rattle.requests.specs.Request.{kindOf as callOf, limitOf, written, readRequ
 use Rattle.formats.specs.Half.{keyOf, flagOf, idOf, usableOf}
 use Rattle.formats.specs.Title.{cciOf, titleHalf}
 use Rattle.formats.specs.Entry.{kindOf}
-use Rattle.formats.specs.Head.{ledgerPasses, ledgerApplication, tablePasses, titlesPass, rulesApplication}
+use Rattle.formats.specs.Head.{rulesIdentifier, ledgerPasses, ledgerApplication, tablePasses, titlesPass, rulesApplication}
+use Rattle.formats.specs.declared.head.Pair.{Pair}
 use Rattle.formats.specs.declared.facts.ContentId.{ContentId}
 use Rattle.formats.specs.declared.facts.EntryNumber.{EntryNumber}
 use Rattle.formats.specs.declared.facts.Fillers.{Fillers}
@@ -89,30 +90,30 @@ pub record RightsInEntry (b : Buffers) (j c rights : ℕ) : Type 0 where
 -- a move of rights `before`, where all else that it needs is there, is done and leaves `after`: in the row on a move out, in the
 -- entry on a move in
 pub record Moves (before after : ℕ) : Type 0 where
-  pub moved-out : (b : Buffers) (j : EntryNumber) (h : ℕ) (f : Fillers) → AreBytes b → Needs (MoveOut j h f) b → factsAt b (j .0) .rights ≡ before
-      → (perform (MoveOut j h f) b .answer ≡ 0) × RightsInRow (perform (MoveOut j h f) b .buffers) (contentAt b (j .0)) after
-  pub moved-in : (b : Buffers) (c : ContentId) (j : EntryNumber) (h : ℕ) → AreBytes b → Needs (MoveIn c j h) b → rowFacts b (c .0) .rights ≡ before
-      → (perform (MoveIn c j h) b .answer ≡ 0) × RightsInEntry (perform (MoveIn c j h) b .buffers) (j .0) (c .0) after
+  pub moved-out : (pair : Pair) (b : Buffers) (j : EntryNumber) (h : ℕ) (f : Fillers) → AreBytes b → Needs pair (MoveOut j h f) b → factsAt b (j .0) .rights ≡ before
+      → (perform pair (MoveOut j h f) b .answer ≡ 0) × RightsInRow (perform pair (MoveOut j h f) b .buffers) (contentAt b (j .0)) after
+  pub moved-in : (pair : Pair) (b : Buffers) (c : ContentId) (j : EntryNumber) (h : ℕ) → AreBytes b → Needs pair (MoveIn c j h) b → rowFacts b (c .0) .rights ≡ before
+      → (perform pair (MoveIn c j h) b .answer ≡ 0) × RightsInEntry (perform pair (MoveIn c j h) b .buffers) (j .0) (c .0) after
 
 -- E6: rights 15 to 15, 14 to 13, 1 to 0 on a move
 abbrev pub E6 : Type 0
 E6 = Moves 15 15 × Moves 14 13 × Moves 1 0
 
 -- the rule table passes condition 9, except possibly for its version
-pub record PassesButVersion (b : Buffers) : Type 0 where
-  pub table : tablePasses 0x4D31 32000 32 0x02 (b .rules) ≡ true
+pub record PassesButVersion (pair : Pair) (b : Buffers) : Type 0 where
+  pub table : tablePasses (rulesIdentifier pair) 32000 32 0x02 (b .rules) ≡ true
   pub application : rulesApplication (b .rules) ≡ ledgerApplication (b .ledger)
 
 -- the checks of a call before that of the rule table pass: its arguments are within their limits, and two heads are right
-pub record PassesUntil9 (k : Request) (b : Buffers) : Type 0 where
+pub record PassesUntil9 (pair : Pair) (k : Request) (b : Buffers) : Type 0 where
   pub its-arguments : limitOf k ≡ 0
   pub ledger : ledgerPasses (b .ledger) ≡ true
-  pub titles : titlesPass (b .titles) ≡ true
+  pub titles : titlesPass pair (b .titles) ≡ true
 
--- E7: rule version 12h passes; 10h: 9. So it is for each call that is lent the card, which is all but 1, register.
+-- E7: rule version 12h passes; 10h: 9. So it is for both pairs and each call that is lent the card, which is all but 1, register.
 pub record E7 : Type 0 where
-  pub version-12 : (k : Request) (b : Buffers) → callOf k ≢ 1 → PassesButVersion b → getD (b .rules) 3 0 ≡ 0x12 → perform k b .answer ≢ 9
-  pub version-10 : (k : Request) (b : Buffers) → callOf k ≢ 1 → PassesUntil9 k b → getD (b .rules) 3 0 ≡ 0x10 → perform k b .answer ≡ 9
+  pub version-12 : (pair : Pair) (k : Request) (b : Buffers) → callOf k ≢ 1 → PassesButVersion pair b → getD (b .rules) 3 0 ≡ 0x12 → perform pair k b .answer ≢ 9
+  pub version-10 : (pair : Pair) (k : Request) (b : Buffers) → callOf k ≢ 1 → PassesUntil9 pair k b → getD (b .rules) 3 0 ≡ 0x10 → perform pair k b .answer ≡ 9
 
 -- an entry whose halves are usable with these IDs is torn
 abbrev pub TornBy : ℕ → ℕ → Type 0
@@ -125,14 +126,14 @@ E8 = ((h : List ℕ) → flagOf h ≡ true → idOf h ≡ 0 → usableOf h ≡ f
 -- a check-in at permits `before`, where all else that it needs is there, is done and leaves the row `after`
 abbrev pub ChecksIn : ℕ → ℕ → Type 0
 ChecksIn before after =
-    (b : Buffers) (j : EntryNumber) (f1 : ℕ) → AreBytes b → Needs (CheckIn j f1) b → rowFacts b (contentAt b (j .0)) .permits ≡ before
-    → (perform (CheckIn j f1) b .answer ≡ 0) × PermitsInRow (perform (CheckIn j f1) b .buffers) (contentAt b (j .0)) after
+    (pair : Pair) (b : Buffers) (j : EntryNumber) (f1 : ℕ) → AreBytes b → Needs pair (CheckIn j f1) b → rowFacts b (contentAt b (j .0)) .permits ≡ before
+    → (perform pair (CheckIn j f1) b .answer ≡ 0) × PermitsInRow (perform pair (CheckIn j f1) b .buffers) (contentAt b (j .0)) after
 
 -- E9: check-in at permits 13 gives 14; at 14 it is refused with 15; at 15 they stay 15
 pub record E9 : Type 0 where
   pub at-13 : ChecksIn 13 14
-  pub at-14 : (b : Buffers) (j : EntryNumber) (f1 : ℕ) → MetBelow 15 (needsOf (CheckIn j f1) b) → rowFacts b (contentAt b (j .0)) .permits ≡ 14
-      → perform (CheckIn j f1) b .answer ≡ 15
+  pub at-14 : (pair : Pair) (b : Buffers) (j : EntryNumber) (f1 : ℕ) → MetBelow 15 (needsOf pair (CheckIn j f1) b) → rowFacts b (contentAt b (j .0)) .permits ≡ 14
+      → perform pair (CheckIn j f1) b .answer ≡ 15
   pub at-15 : ChecksIn 15 15
 
 -- E10: kind 8: 3; no bytes: 1

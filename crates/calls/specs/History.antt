@@ -7,6 +7,7 @@ use mathlib.Core.List.{List, [], _∷_, _++_, map}
 use mathlib.Core.Option.{Option, none, some}
 use mathlib.Core.Bool.{Bool, _&&_, cond}
 use lib.Dec.{eqb}
+use Rattle.formats.specs.declared.head.Pair.{Pair}
 use Rattle.formats.specs.declared.facts.Facts.{Facts}
 use Rattle.requests.specs.declared.request.Request.{Request}
 use Rattle.requests.specs.declared.request.Request.the-variants.{Register, Record, CheckOut, CheckIn, MoveOut, MoveIn, Delete}
@@ -35,23 +36,24 @@ pub record Run : Type 0 where
   pub buffers : Buffers
 
 -- "Each call finds them as the last one left them"
-abbrev pub next : Request → Run → Run
-next k w =
+abbrev pub next : Pair → Request → Run → Run
+next pair k w =
     record {
-      log = record { call = k; answer = perform k (w .buffers) .answer } ∷ w .log;
-      buffers = perform k (w .buffers) .buffers;
+      log = record { call = k; answer = perform pair k (w .buffers) .answer } ∷ w .log;
+      buffers = perform pair k (w .buffers) .buffers;
     }
 
-unfoldable pub run : List Request → Run → Run
-run [] w = w
-run (k ∷ ks) w = run ks (next k w)
+-- all calls of a list are of one pair
+unfoldable pub run : Pair → List Request → Run → Run
+run pair [] w = w
+run pair (k ∷ ks) w = run pair ks (next pair k w)
 
 -- no call yet
 abbrev pub from : Buffers → Run
 from b = record { log = []; buffers = b }
 
-abbrev pub start : ℕ → ℕ → ℕ → Run
-start rows application cardApplication = from (fresh rows application cardApplication)
+abbrev pub start : Pair → ℕ → ℕ → ℕ → Run
+start pair rows application cardApplication = from (fresh pair rows application cardApplication)
 
 -- a log in the order of its calls
 unfoldable pub inOrder : Log → Log
@@ -62,8 +64,8 @@ inOrder (a ∷ log) = inOrder log ++ (a ∷ [])
 abbrev pub answersIn : Run → List ℕ
 answersIn w = map (λ a. a .answer) (inOrder (w .log))
 
-abbrev pub answers : List Request → Buffers → List ℕ
-answers ks b = answersIn (run ks (from b))
+abbrev pub answers : Pair → List Request → Buffers → List ℕ
+answers pair ks b = answersIn (run pair ks (from b))
 
 -- THE COUNTS, from the log
 
@@ -209,7 +211,9 @@ pub record TitleClaim (c : ℕ) (f : Facts) (acts : List Action) (b : Buffers) :
 abbrev pub After : Run → Type 0
 After w = (c : ℕ) (f : Facts) → grant (actions c (w .log)) ≡ some f → TitleClaim c f (actions c (w .log)) (w .buffers)
 
--- DEMAND 3: after every list of calls from any fresh ledger and card
+-- DEMAND 3: after every list of calls from any fresh ledger and card. "What holds for a title's history holds for a picture's": the
+-- tables are of either pair
 abbrev pub History : Type 0
 History =
-    (rows application cardApplication : ℕ) → 1 ≤ rows → rows ≤ 999 → (ks : List Request) → After (run ks (start rows application cardApplication))
+    (pair : Pair) (rows application cardApplication : ℕ) → 1 ≤ rows → rows ≤ 999 → (ks : List Request)
+    → After (run pair ks (start pair rows application cardApplication))

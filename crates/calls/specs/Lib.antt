@@ -12,3 +12,4 @@ pub mod SampleRun
 pub mod Needs
 pub mod Untouched
 pub mod Work
+pub mod Pairs

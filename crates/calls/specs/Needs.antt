@@ -7,6 +7,8 @@ use mathlib.Core.List.{List, [], _∷_, _++_}
 use mathlib.Core.Bool.{Bool, true, false}
 use lib.Dec.{ltb}
 use Rattle.formats.specs.Head.{LedgerHead, TitlesHead, RulesHead, ledgerApplication, rulesApplication}
+use Rattle.formats.specs.declared.head.Pair.{Pair}
+use Rattle.formats.specs.declared.head.Pair.the-variants.{Audio}
 use Rattle.formats.specs.declared.facts.Facts.{Facts}
 use Rattle.formats.specs.declared.entry.EntryKind.the-variants.{Free, Copy, Full}
 use Rattle.formats.specs.declared.row.RowState.the-variants.{Empty, Here, Away}
@@ -57,8 +59,8 @@ pub record FactsInRange (f : Facts) : Type 0 where
   pub sti-key : f .«sti_key» < 2 ^ 56
 
 -- the rule table's length and head are right, and the card is of the ledger's application
-pub record RulesOfLedger (b : Buffers) : Type 0 where
-  pub head : RulesHead (b .rules)
+pub record RulesOfLedger (pair : Pair) (b : Buffers) : Type 0 where
+  pub head : RulesHead pair (b .rules)
   pub application : rulesApplication (b .rules) ≡ ledgerApplication (b .ledger)
 
 -- a title with these facts may move: trigger not 1, and a move right is left
@@ -70,17 +72,17 @@ pub record MayMove (f : Facts) : Type 0 where
 abbrev pub WipesTitleKey : Buffers → ℕ → ℕ → Type 0
 WipesTitleKey b j f1 = f1 % 2 ^ 56 ≢ titleKey b j
 
--- nor of its STI key: "f2 mod 2^56 the STI key"
-abbrev pub WipesStiKey : Buffers → ℕ → ℕ → Type 0
-WipesStiKey b j f2 = f2 % 2 ^ 56 ≢ stiKey b j
+-- nor, in an audio call, of its STI key: "f2 mod 2^56 the STI key"; "In picture calls condition 16 looks at f1 only."
+abbrev pub WipesStiKey : Pair → Buffers → ℕ → ℕ → Type 0
+WipesStiKey pair b j f2 = pair ≡ Audio → f2 % 2 ^ 56 ≢ stiKey b j
 
 -- no entry of the card is a copy of c
 abbrev pub NoCopy : Buffers → ℕ → Type 0
 NoCopy b c = (i : ℕ) → Within 999 i → kindAt b i ≡ Copy → contentAt b i ≢ c
 
 -- the heads of ledger and card
-abbrev pub headNeeds : Buffers → List Need
-headNeeds b = 7 needs LedgerHead (b .ledger) ∷ 8 needs TitlesHead (b .titles) ∷ 9 needs RulesOfLedger b ∷ []
+abbrev pub headNeeds : Pair → Buffers → List Need
+headNeeds pair b = 7 needs LedgerHead (b .ledger) ∷ 8 needs TitlesHead pair (b .titles) ∷ 9 needs RulesOfLedger pair b ∷ []
 
 -- 1 register (c, facts): "row empty". It is lent the ledger only.
 -- 2 record (c, j, facts, h): "row empty, entry free"
@@ -89,63 +91,63 @@ headNeeds b = 7 needs LedgerHead (b .ledger) ∷ 8 needs TitlesHead (b .titles) 
 -- 5 move out (j, h, f1-f4): "entry full, its row away"; the entry's facts allow it, and h is the stored C_HASH
 -- 6 move in (c, j, h): "row here, entry free"; the row's facts allow it, and no copy of c is on the card
 -- 7 delete (j, f1-f4): a copy, "its row neither tested nor touched"; or a full entry, its row away
-abbrev pub needsOf : Request → Buffers → List Need
-needsOf (Register c f) b =
+abbrev pub needsOf : Pair → Request → Buffers → List Need
+needsOf pair (Register c f) b =
     4 needs Within 999 (c .0)
     ∷ 6 needs FactsInRange f
     ∷ 7 needs LedgerHead (b .ledger)
     ∷ 11 needs (stateAt b (c .0) ≡ Empty)
     ∷ []
-needsOf (Record c j f h) b =
+needsOf pair (Record c j f h) b =
     4 needs Within 999 (c .0)
     ∷ 5 needs Within 999 (j .0)
     ∷ 6 needs FactsInRange f
-    ∷ (headNeeds b
+    ∷ (headNeeds pair b
     ++ (10 needs (kindAt b (j .0) ≡ Free)
     ∷ 11 needs (stateAt b (c .0) ≡ Empty)
     ∷ []))
-needsOf (CheckOut c j) b =
+needsOf pair (CheckOut c j) b =
     4 needs Within 999 (c .0)
     ∷ 5 needs Within 999 (j .0)
-    ∷ (headNeeds b
+    ∷ (headNeeds pair b
     ++ (10 needs (kindAt b (j .0) ≡ Free)
     ∷ 11 needs (stateAt b (c .0) ≡ Here (rowFacts b (c .0)))
     ∷ 12 needs (rowFacts b (c .0) .permits ≢ 0)
     ∷ []))
-needsOf (CheckIn j f1) b =
+needsOf pair (CheckIn j f1) b =
     5 needs Within 999 (j .0)
-    ∷ (headNeeds b
+    ∷ (headNeeds pair b
     ++ (10 needs (kindAt b (j .0) ≡ Copy)
     ∷ 11 needs (stateAt b (contentAt b (j .0)) ≡ Here (rowFacts b (contentAt b (j .0))))
     ∷ 15 needs (rowFacts b (contentAt b (j .0)) .permits ≢ 14)
     ∷ 16 needs WipesTitleKey b (j .0) f1
     ∷ []))
-needsOf (MoveOut j h f) b =
+needsOf pair (MoveOut j h f) b =
     5 needs Within 999 (j .0)
-    ∷ (headNeeds b
+    ∷ (headNeeds pair b
     ++ (10 needs (kindAt b (j .0) ≡ Full)
     ∷ 11 needs (stateAt b (contentAt b (j .0)) ≡ Away)
     ∷ 12 needs MayMove (factsAt b (j .0))
     ∷ 13 needs (h ≡ hashAt b (j .0))
-    ∷ 16 needs (WipesTitleKey b (j .0) (f .f1) × WipesStiKey b (j .0) (f .f2))
+    ∷ 16 needs (WipesTitleKey b (j .0) (f .f1) × WipesStiKey pair b (j .0) (f .f2))
     ∷ []))
-needsOf (MoveIn c j h) b =
+needsOf pair (MoveIn c j h) b =
     4 needs Within 999 (c .0)
     ∷ 5 needs Within 999 (j .0)
-    ∷ (headNeeds b
+    ∷ (headNeeds pair b
     ++ (10 needs (kindAt b (j .0) ≡ Free)
     ∷ 11 needs (stateAt b (c .0) ≡ Here (rowFacts b (c .0)))
     ∷ 12 needs MayMove (rowFacts b (c .0))
     ∷ 14 needs NoCopy b (c .0)
     ∷ []))
-needsOf (Delete j f) b =
+needsOf pair (Delete j f) b =
     5 needs Within 999 (j .0)
-    ∷ (headNeeds b
+    ∷ (headNeeds pair b
     ++ (10 needs ((kindAt b (j .0) ≡ Copy) ⊎ (kindAt b (j .0) ≡ Full))
     ∷ 11 needs (kindAt b (j .0) ≡ Full → stateAt b (contentAt b (j .0)) ≡ Away)
-    ∷ 16 needs (WipesTitleKey b (j .0) (f .f1) × (kindAt b (j .0) ≡ Full → WipesStiKey b (j .0) (f .f2)))
+    ∷ 16 needs (WipesTitleKey b (j .0) (f .f1) × (kindAt b (j .0) ≡ Full → WipesStiKey pair b (j .0) (f .f2)))
     ∷ []))
 
 -- a call has all that it needs of the buffers that it is lent
-abbrev pub Needs : Request → Buffers → Type 0
-Needs k b = AllMet (needsOf k b)
+abbrev pub Needs : Pair → Request → Buffers → Type 0
+Needs pair k b = AllMet (needsOf pair k b)

@@ -1,4 +1,4 @@
--- A call on the buffers: its answer, and the buffers after it.
+-- A call on the buffers, with the pair that its card tables are to be: its answer, and the buffers after it.
 use Prim.Native.Nat.{ℕ}
 use mathlib.Core.Path.{_≡_}
 use mathlib.Core.List.{List, [], _∷_}
@@ -6,6 +6,7 @@ use mathlib.Core.Bool.{cond}
 use lib.Dec.{eqb}
 use lib.ListN.{length}
 use Rattle.formats.specs.Bytes.{Bytes}
+use Rattle.formats.specs.declared.head.Pair.{Pair}
 use Rattle.requests.specs.declared.request.Request.{Request}
 use Rattle.requests.specs.declared.request.Request.the-variants.{Register, Record, CheckOut, CheckIn, MoveOut, MoveIn, Delete}
 use Rattle.calls.specs.Buffers.{Buffers}
@@ -19,12 +20,12 @@ pub record Performed : Type 0 where
   pub buffers : Buffers
 
 -- the number of the first condition that holds, or 0
-unfoldable pub refusal : Request → Buffers → ℕ
-refusal k b = first (conditions k b)
+unfoldable pub refusal : Pair → Request → Buffers → ℕ
+refusal pair k b = first (conditions pair k b)
 
 -- "A refusal changes no byte of any buffer."
-unfoldable pub perform : Request → Buffers → Performed
-perform k b = record { answer = refusal k b; buffers = cond (eqb (refusal k b) 0) (effect k b) b }
+unfoldable pub perform : Pair → Request → Buffers → Performed
+perform pair k b = record { answer = refusal pair k b; buffers = cond (eqb (refusal pair k b) 0) (effect k b) b }
 
 -- the numbers that each call can be answered with, "in number order over what it takes"
 abbrev pub checked : Request → List ℕ
@@ -49,8 +50,9 @@ pub record InBounds (b after : Buffers) : Type 0 where
   pub rules-length : length (after .rules) ≡ length (b .rules)
   pub stay-bytes : AreBytes b → AreBytes after
 
--- DEMAND 1, of every call on all buffers, damaged ones included
+-- DEMAND 1, of every call on tables of either pair and on all buffers, damaged ones included
 abbrev pub Demand1Calls : Type 0
 Demand1Calls =
-    (k : Request) (b : Buffers)
-    → RefusedFirst Buffers (checked k) (conditions k b) (perform k b .answer) b (perform k b .buffers) (effect k b) × InBounds b (perform k b .buffers)
+    (pair : Pair) (k : Request) (b : Buffers)
+    → RefusedFirst Buffers (checked k) (conditions pair k b) (perform pair k b .answer) b (perform pair k b .buffers) (effect k b)
+    × InBounds b (perform pair k b .buffers)

@@ -3,6 +3,7 @@
 use Prim.Native.Nat.{ℕ}
 use mathlib.Core.Path.{_≡_}
 use mathlib.Core.List.{List, [], _∷_}
+use Rattle.formats.specs.declared.head.Pair.{Pair}
 use Rattle.formats.specs.declared.facts.Facts.{Facts}
 use Rattle.formats.specs.declared.facts.Fillers.{Fillers}
 use Rattle.requests.specs.declared.request.Request.{Request}
@@ -30,7 +31,7 @@ sampleRequests = registration 1 sampleFacts ∷ checkOut 1 7 ∷ checkOut 1 8 �
 
 -- "formats a ledger of 64 rows and a card, application number 0": the second check-out finds no permit, the first move in a copy
 abbrev pub SampleRun : Type 0
-SampleRun = answers sampleRequests (fresh 64 0 0) ≡ 0 ∷ 0 ∷ 12 ∷ 14 ∷ 0 ∷ 0 ∷ []
+SampleRun = (pair : Pair) → answers pair sampleRequests (fresh pair 64 0 0) ≡ 0 ∷ 0 ∷ 12 ∷ 14 ∷ 0 ∷ 0 ∷ []
 
 -- Beside it a run in which each of the seven calls is done, so that what each of them needs can be met: title 2 is registered;
 -- title 1 is recorded on the card, moved out, lent and returned, lent and its copy deleted, moved in, and deleted with its holder.
@@ -54,4 +55,4 @@ everyCall =
     registration 2 sampleFacts ∷ recording ∷ moveOut ∷ checkOut 1 7 ∷ checkIn ∷ checkOut 1 7 ∷ deletion 7 ∷ moveIn ∷ deletion 9 ∷ []
 
 abbrev pub EveryCallDone : Type 0
-EveryCallDone = answers everyCall (fresh 64 0 0) ≡ 0 ∷ 0 ∷ 0 ∷ 0 ∷ 0 ∷ 0 ∷ 0 ∷ 0 ∷ 0 ∷ []
+EveryCallDone = (pair : Pair) → answers pair everyCall (fresh pair 64 0 0) ≡ 0 ∷ 0 ∷ 0 ∷ 0 ∷ 0 ∷ 0 ∷ 0 ∷ 0 ∷ 0 ∷ []

@@ -6,11 +6,16 @@ use mathlib.Core.Path.{_≡_}
 use mathlib.Core.Logic.{_≢_}
 use mathlib.Core.List.{List}
 use lib.ListN.{getD}
+use Rattle.formats.specs.Part.{part}
+use Rattle.formats.specs.Field.{bytesOf}
 use Rattle.formats.specs.Half.{wiped}
 use Rattle.formats.specs.Title.{cciOf, titleHalf}
 use Rattle.formats.specs.Rule.{ruleHalf, wipedRule}
 use Rattle.formats.specs.Row.{hereRow, plainRow}
+use Rattle.formats.specs.declared.head.Pair.{Pair}
+use Rattle.formats.specs.declared.head.Pair.the-variants.{Audio, Picture}
 use Rattle.formats.specs.declared.facts.ContentId.{ContentId}
+use Rattle.formats.specs.declared.facts.EntryNumber.{EntryNumber}
 use Rattle.formats.specs.declared.facts.Facts.{Facts}
 use Rattle.formats.specs.declared.facts.Fillers.{Fillers}
 use Rattle.formats.specs.declared.entry.EntryKind.the-variants.{Free, Copy, Full}
@@ -60,10 +65,12 @@ pub record TitleWiped (j f1 : ℕ) (b after : Buffers) : Type 0 where
   pub title-half : titleAt (after .titles) j ≡ wiped (titleAt (b .titles) j) f1
   pub key-gone : titleKey after j ≢ titleKey b j
 
--- and so its rule half
-pub record RuleWiped (j : ℕ) (f : Fillers) (b after : Buffers) : Type 0 where
+-- and so its rule half. What it held is overwritten with f2, whatever that was; in an audio call it no longer has the STI key that it
+-- had, and in a picture call, which does not look at f2, it may have the same number again
+pub record RuleWiped (pair : Pair) (j : ℕ) (f : Fillers) (b after : Buffers) : Type 0 where
   pub rule-half : ruleAt (after .rules) j ≡ wipedRule (ruleAt (b .rules) j) f
-  pub key-gone : stiKey after j ≢ stiKey b j
+  pub overwritten : part (ruleAt (after .rules) j) 0 8 ≡ bytesOf 8 (f .f2)
+  pub key-gone : pair ≡ Audio → stiKey after j ≢ stiKey b j
 
 -- 1 register: row "becomes here with the facts"
 pub record Registered (c : ℕ) (f : Facts) (b after : Buffers) : Type 0 where
@@ -94,12 +101,12 @@ pub record CheckedIn (j f1 : ℕ) (b after : Buffers) : Type 0 where
   pub rules : after .rules ≡ b .rules
 
 -- 5 move out: "row here with the entry's facts; both halves wiped; rights less 1, or 15 unchanged"
-pub record MovedOut (j : ℕ) (f : Fillers) (b after : Buffers) : Type 0 where
+pub record MovedOut (pair : Pair) (j : ℕ) (f : Fillers) (b after : Buffers) : Type 0 where
   pub row : RowIs after (contentAt b j) (Here (rowFacts after (contentAt b j))) (hereRow (rowFacts after (contentAt b j)))
   pub facts : Recounted (factsAt b j) (oneLess (factsAt b j .rights)) (factsAt b j .permits) (rowFacts after (contentAt b j))
   pub free : kindAt after j ≡ Free
   pub title : TitleWiped j (f .f1) b after
-  pub rule : RuleWiped j f b after
+  pub rule : RuleWiped pair j f b after
 
 -- 6 move in: "entry full with the row's facts and h; rights less 1, or 15 unchanged; row away"
 pub record MovedIn (c j h : ℕ) (b after : Buffers) : Type 0 where
@@ -115,45 +122,48 @@ pub record CopyDeleted (j : ℕ) (f : Fillers) (b after : Buffers) : Type 0 wher
   pub rules : after .rules ≡ b .rules
 
 -- "a full entry has both halves wiped and its row, away, becomes gone"
-pub record HolderDeleted (j : ℕ) (f : Fillers) (b after : Buffers) : Type 0 where
+pub record HolderDeleted (pair : Pair) (j : ℕ) (f : Fillers) (b after : Buffers) : Type 0 where
   pub row : RowIs after (contentAt b j) Gone (plainRow 3)
   pub free : kindAt after j ≡ Free
   pub title : TitleWiped j (f .f1) b after
-  pub rule : RuleWiped j f b after
+  pub rule : RuleWiped pair j f b after
 
-pub record Deleted (j : ℕ) (f : Fillers) (b after : Buffers) : Type 0 where
+pub record Deleted (pair : Pair) (j : ℕ) (f : Fillers) (b after : Buffers) : Type 0 where
   pub of-copy : kindAt b j ≡ Copy → CopyDeleted j f b after
-  pub of-full : kindAt b j ≡ Full → HolderDeleted j f b after
+  pub of-full : kindAt b j ≡ Full → HolderDeleted pair j f b after
 
 -- what a done call leaves, where it found b
-abbrev pub Left : Request → Buffers → Buffers → Type 0
-Left (Register c f) b after = Registered (c .0) f b after
-Left (Record c j f h) b after = Recorded (c .0) (j .0) f h after
-Left (CheckOut c j) b after = CheckedOut (c .0) (j .0) b after
-Left (CheckIn j f1) b after = CheckedIn (j .0) f1 b after
-Left (MoveOut j h f) b after = MovedOut (j .0) f b after
-Left (MoveIn c j h) b after = MovedIn (c .0) (j .0) h b after
-Left (Delete j f) b after = Deleted (j .0) f b after
+abbrev pub Left : Pair → Request → Buffers → Buffers → Type 0
+Left pair (Register c f) b after = Registered (c .0) f b after
+Left pair (Record c j f h) b after = Recorded (c .0) (j .0) f h after
+Left pair (CheckOut c j) b after = CheckedOut (c .0) (j .0) b after
+Left pair (CheckIn j f1) b after = CheckedIn (j .0) f1 b after
+Left pair (MoveOut j h f) b after = MovedOut pair (j .0) f b after
+Left pair (MoveIn c j h) b after = MovedIn (c .0) (j .0) h b after
+Left pair (Delete j f) b after = Deleted pair (j .0) f b after
 
 -- THE STATEMENT
 
 -- of one call on any buffers
-pub record Works (k : Request) (b : Buffers) : Type 0 where
-  pub answered : AnsweredBy (needsOf k b) (perform k b .answer)
-  pub leaves : AreBytes b → Needs k b → Left k b (perform k b .buffers)
-  pub untouched : Untouched k b (perform k b .buffers)
+pub record Works (pair : Pair) (k : Request) (b : Buffers) : Type 0 where
+  pub answered : AnsweredBy (needsOf pair k b) (perform pair k b .answer)
+  pub leaves : AreBytes b → Needs pair k b → Left pair k b (perform pair k b .buffers)
+  pub untouched : Untouched k b (perform pair k b .buffers)
 
--- of each call on all buffers, damaged ones included
+-- of each call on tables of either pair and on all buffers, damaged ones included
 abbrev pub WorkIsDone : Type 0
-WorkIsDone = (k : Request) (b : Buffers) → Works k b
+WorkIsDone = (pair : Pair) (k : Request) (b : Buffers) → Works pair k b
 
--- "Register is lent the ledger only.": it answers and leaves the same ledger whatever the card's tables are
+-- "Register is lent the ledger only.": it answers and leaves the same ledger whatever the card's tables are, and of which pair
+pub record SameRegister (pair pair′ : Pair) (k : Request) (b b′ : Buffers) : Type 0 where
+  pub answer : perform pair k b .answer ≡ perform pair′ k b′ .answer
+  pub ledger : perform pair k b .buffers .ledger ≡ perform pair′ k b′ .buffers .ledger
+
 abbrev pub RegisterByLedger : Type 0
 RegisterByLedger =
-    (c : ContentId) (f : Facts) (ledger titles rules titles′ rules′ : List ℕ)
-    → (perform (Register c f) (buffersOf ledger titles rules) .answer ≡ perform (Register c f) (buffersOf ledger titles′ rules′) .answer)
-    × (perform (Register c f) (buffersOf ledger titles rules) .buffers .ledger ≡ perform (Register c f) (buffersOf ledger titles′ rules′) .buffers .ledger)
+    (pair pair′ : Pair) (c : ContentId) (f : Facts) (ledger titles rules titles′ rules′ : List ℕ)
+    → SameRegister pair pair′ (Register c f) (buffersOf ledger titles rules) (buffersOf ledger titles′ rules′)
 
 -- "A gone row is not used again.": whatever the call, done or refused, it stays gone
 abbrev pub GoneStays : Type 0
-GoneStays = (k : Request) (b : Buffers) (c : ℕ) → stateAt b c ≡ Gone → stateAt (perform k b .buffers) c ≡ Gone
+GoneStays = (pair : Pair) (k : Request) (b : Buffers) (c : ℕ) → stateAt b c ≡ Gone → stateAt (perform pair k b .buffers) c ≡ Gone

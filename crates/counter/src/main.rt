@@ -1,5 +1,6 @@
 // Formats a ledger of 64 rows and a card, and serves the requests of standard input, at most 4,096 bytes of them. It prints
 // a line for each request, its kind and its answer, and then `end` and the number that stopped reading, 0 at the end.
+use formats::head::Pair;
 use music_counter::serve;
 use tables::format;
 
@@ -24,12 +25,13 @@ fn main() {
     let mut titles = [0u8; 16000];
     let mut rules = [0u8; 32000];
     format::format_ledger(&mut ledger, 64, 0);
-    format::format_card(&mut titles, &mut rules, 0);
+    format::format_card(Pair::Audio, &mut titles, &mut rules, 0);
     let mut input = [0u8; 4096];
     let n = io::read_full(0, &mut input);
     let mut kinds = [0u64; 4096];
     let mut answers = [0u64; 4096];
     let served = serve::all(
+        Pair::Audio,
         &mut ledger,
         &mut titles,
         &mut rules,

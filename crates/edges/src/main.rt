@@ -12,6 +12,7 @@
 //   05  requests, served on a fresh ledger of 4 rows and a fresh card: the number that stopped, the count, four places for
 //       kinds and four for answers (99 stood there), rows and entries 1 to 4
 //   06  a field
+//   07  requests, as 05, on a card of pictures
 //   11  the length of a number in groups
 //   12  a half: whether it has flag 1 and this content ID
 //   18  wipe a title half: f1
@@ -20,7 +21,8 @@
 //   1B  write the permits of a row: permits
 //   1C  write a field: value
 //   1D  write a number in groups: value; 0 and its length, or what it is refused with
-//   21  a table, of which the part is the front, and zeros: application number, length; every head's tests and fields
+//   21  a table, of which the part is the front, and zeros: application number, length; every head's tests and fields, those
+//       of card tables for audio and then for pictures
 //   22  an entry: lengths of its title half, for which 16 bytes are there, and of its rule half behind them
 //   28  write a number in groups at a place: value, place; the place behind it
 //   38  write a title half: CCI, key, content ID

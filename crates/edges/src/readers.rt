@@ -8,6 +8,7 @@ use formats::facts::Facts;
 use formats::field;
 use formats::half;
 use formats::head;
+use formats::head::Pair;
 use formats::row;
 use formats::row::RowState;
 use formats::rule;
@@ -26,8 +27,9 @@ pub fn show(code: u8, v: Numbers, case: &[u8], part: &[u8]) {
         0x02 => state(row::state(part)),
         0x03 => read(number::read(part)),
         0x04 => print::bytes(request::remainder(part, request::read(part))),
-        0x05 => stream(part),
+        0x05 => stream(Pair::Audio, part),
         0x06 => print::number(field::read(part)),
+        0x07 => stream(Pair::Picture, part),
         0x11 => print::number(number::len(v.one) as u64),
         0x12 => print::number(half::is_flagged(part, ContentId(v.one)) as u64),
         0x21 => heads(v.one, table::part(case, 17, v.two as usize)),
@@ -107,27 +109,33 @@ fn read(found: NumberRead) {
     }
 }
 
-// The tests and fields of a ledger's head, and those of the card's.
+// The tests and fields of a ledger's head, and those of the card's, as tables of either pair.
 fn heads(application: u64, table: &[u8]) {
     print::number(head::check_ledger(table));
     print::number(head::ledger_application(table));
     print::number(head::rows(table));
-    print::number(head::check_titles(table));
-    print::number(head::check_rules(table));
     print::number(head::rules_application(table));
-    print::number(head::check_rules_for(table, application));
+    card_heads(Pair::Audio, application, table);
+    card_heads(Pair::Picture, application, table);
+}
+
+fn card_heads(pair: Pair, application: u64, table: &[u8]) {
+    print::number(head::check_titles(pair, table));
+    print::number(head::check_rules(pair, table));
+    print::number(head::check_rules_for(pair, table, application));
 }
 
 // What serving answers, with four places for kinds and four for answers, and rows and entries 1 to 4 after it.
-fn stream(requests: &[u8]) {
+fn stream(pair: Pair, requests: &[u8]) {
     let mut ledger = [0u8; 120];
     let mut titles = [0u8; 16000];
     let mut rules = [0u8; 32000];
     format::format_ledger(&mut ledger, 4, 0);
-    format::format_card(&mut titles, &mut rules, 0);
+    format::format_card(pair, &mut titles, &mut rules, 0);
     let mut kinds = [99u64; 4];
     let mut answers = [99u64; 4];
     let served = serve::all(
+        pair,
         &mut ledger,
         &mut titles,
         &mut rules,

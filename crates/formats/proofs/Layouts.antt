@@ -18,10 +18,12 @@ use Rattle.formats.specs.Half.{idOf, usableOf, halfBytes, wiped}
 use Rattle.formats.specs.Title.{titleHalf}
 use Rattle.formats.specs.Rule.{ruleHalf, wipedRule}
 use Rattle.formats.specs.Entry.{kindOf, entryFacts}
-use Rattle.formats.specs.Head.{freshLedger, tableHead, freshTitles, freshRules}
+use Rattle.formats.specs.declared.head.Pair.{Pair}
+use Rattle.formats.specs.declared.head.Pair.the-variants.{Audio, Picture}
+use Rattle.formats.specs.Head.{titlesIdentifier, rulesIdentifier, freshLedger, tableHead, freshTitles, freshRules}
 use Rattle.formats.specs.Facts.{inRange}
 use Rattle.formats.specs.Row.{factsOf, stateOf, hereRow, plainRow, withPermits}
-use Rattle.formats.specs.Layout.{Fields, WipedTitle, WipedRule, WrittenHalf, WrittenTitle, WrittenRule, WrittenHere, WrittenPlain, ChangedPermits, InRanges, HoldsHere, HoldsNone, States, SameButZeros, contentId, Usable, HoldsFree, HoldsCopy, HoldsFull, HoldsTorn, Kinds, HoldsFacts, FreshLedger, FreshCard, Halves, Heads, Rows, Entries, Fresh, Layout}
+use Rattle.formats.specs.Layout.{Fields, WipedTitle, WipedRule, WrittenHalf, WrittenTitle, WrittenRule, WrittenHere, WrittenPlain, ChangedPermits, InRanges, HoldsHere, HoldsNone, States, SameButZeros, contentId, Usable, HoldsFree, HoldsCopy, HoldsFull, HoldsTorn, Kinds, HoldsFacts, FreshLedger, FreshCard, Halves, Heads, Rows, Entries, Fresh, Layout, titlesLetter, rulesLetter}
 use Rattle.formats.specs.declared.facts.Facts.{Facts}
 use Rattle.formats.specs.declared.facts.Fillers.{Fillers}
 use Rattle.formats.specs.declared.entry.EntryKind.{EntryKind}
@@ -39,7 +41,7 @@ use Rattle.formats.proofs.title.Laws.{length-titleHalf}
 use Rattle.formats.proofs.rule.Laws.{length-ruleHalf}
 use Rattle.formats.proofs.half.Laws.{usable-id, flagged, not-flagged}
 use Rattle.formats.proofs.entry.Laws.{kind-free, copy-beside, full-beside, of-free, of-copy, of-full}
-use Rattle.formats.proofs.head.Laws.{ledger-head, ledger-passes, titles-head, titles-pass, rules-head, rules-pass, fresh-ledger-length, fresh-titles-length, fresh-rules-length}
+use Rattle.formats.proofs.head.Laws.{ledger-head, ledger-passes, titles-head, titles-pass, rules-head, rules-pass, titles-of-one, rules-of-one, fresh-ledger-length, fresh-titles-length, fresh-rules-length}
 
 fields : Fields
 unfolding number
@@ -104,8 +106,10 @@ heads : Heads
 heads =
     record {
       ledger = λ l. (ledger-head l, ledger-passes);
-      titles = λ t. (titles-head, titles-pass);
-      rules = λ r. (rules-head, rules-pass);
+      titles = λ pair t. (titles-head, titles-pass);
+      rules = λ pair r. (rules-head, rules-pass);
+      titles-of-one = titles-of-one;
+      rules-of-one = rules-of-one;
     }
 
 -- ROWS
@@ -359,33 +363,42 @@ fresh-ledger rows application =
       zeros = λ i h. zeros-from (bytesOf 2 application ++ bytesOf 2 rows) (20 + 24 * rows) i h;
     }
 
-fresh-titles : FreshCard 0x41 0x10 16000 0 16 0x01 freshTitles
-unfolding freshTitles tableHead bytesOf
-fresh-titles =
+-- the head and the zeros of a card table, by its identifier's two bytes
+fresh-card : (identifier letter version size application width mark n : ℕ) → bytesOf 2 identifier ≡ letter ∷ 0x31 ∷ [] → (t : List ℕ)
+    → t ≡ tableHead identifier version size application width mark ++ replicate n 0 → length t ≡ size
+    → FreshCard letter version size application width mark t
+unfolding tableHead bytesOf
+fresh-card identifier letter version size application width mark n two t is long =
+    rw is
     record {
-      long = fresh-titles-length;
-      bytes-0-3 = refl;
+      long = rw is at long;
+      bytes-0-3 = ap (λ (l : List ℕ). l ++ (0 ∷ version ∷ [])) two;
       bytes-4-7 = refl;
       bytes-8-9 = refl;
       bytes-10-11 = refl;
       byte-12 = refl;
       byte-13 = refl;
-      zeros = λ i h. zeros-from (tableHead 0x4131 0x10 16000 0 16 0x01) 15986 i h;
+      zeros = λ i h. zeros-from (tableHead identifier version size application width mark) n i h;
     }
 
-fresh-rules : (application : ℕ) → FreshCard 0x4D 0x11 32000 application 32 0x02 (freshRules application)
-unfolding freshRules tableHead bytesOf
-fresh-rules application =
-    record {
-      long = fresh-rules-length application;
-      bytes-0-3 = refl;
-      bytes-4-7 = refl;
-      bytes-8-9 = refl;
-      bytes-10-11 = refl;
-      byte-12 = refl;
-      byte-13 = refl;
-      zeros = λ i h. zeros-from (tableHead 0x4D31 0x11 32000 application 32 0x02) 31986 i h;
-    }
+titles-letter : (pair : Pair) → bytesOf 2 (titlesIdentifier pair) ≡ titlesLetter pair ∷ 0x31 ∷ []
+unfolding bytesOf titlesIdentifier
+titles-letter Audio = refl
+titles-letter Picture = refl
+
+rules-letter : (pair : Pair) → bytesOf 2 (rulesIdentifier pair) ≡ rulesLetter pair ∷ 0x31 ∷ []
+unfolding bytesOf rulesIdentifier
+rules-letter Audio = refl
+rules-letter Picture = refl
+
+fresh-titles : (pair : Pair) → FreshCard (titlesLetter pair) 0x10 16000 0 16 0x01 (freshTitles pair)
+unfolding freshTitles
+fresh-titles pair = fresh-card (titlesIdentifier pair) (titlesLetter pair) 0x10 16000 0 16 0x01 15986 (titles-letter pair) _ refl (fresh-titles-length pair)
+
+fresh-rules : (pair : Pair) (application : ℕ) → FreshCard (rulesLetter pair) 0x11 32000 application 32 0x02 (freshRules pair application)
+unfolding freshRules
+fresh-rules pair application =
+    fresh-card (rulesIdentifier pair) (rulesLetter pair) 0x11 32000 application 32 0x02 31986 (rules-letter pair) _ refl (fresh-rules-length pair application)
 
 fresh : Fresh
 fresh = record { ledger = fresh-ledger; titles = fresh-titles; rules = fresh-rules }

@@ -10,6 +10,8 @@ use Rattle.formats.specs.Refusal.{unless}
 use Rattle.formats.specs.Facts.{numbered}
 use Rattle.formats.specs.Part.{part}
 use Rattle.formats.specs.Field.{number, bytesOf}
+use Rattle.formats.specs.declared.head.Pair.{Pair}
+use Rattle.formats.specs.declared.head.Pair.the-variants.{Audio, Picture}
 
 -- "Head: bytes 0-1 the application number, 2-3 R"
 abbrev pub ledgerApplication : List ℕ → ℕ
@@ -22,6 +24,17 @@ rowsOf l = number (part l 2 2)
 unfoldable pub ledgerPasses : List ℕ → Bool
 ledgerPasses l = numbered (rowsOf l) && eqb (length l) (24 * (rowsOf l + 1))
 
+-- the identifier of a title table, "A1" or "P1": "Picture tables have the identifiers P1 and P1 in place of A1 and M1, otherwise the
+-- same layout"
+unfoldable pub titlesIdentifier : Pair → ℕ
+titlesIdentifier Audio = 0x4131
+titlesIdentifier Picture = 0x5031
+
+-- and of a rule table, "M1" or "P1"
+unfoldable pub rulesIdentifier : Pair → ℕ
+rulesIdentifier Audio = 0x4D31
+rulesIdentifier Picture = 0x5031
+
 -- what the two card tables share: the length, bytes 0-1 the identifier, 4-7 the size, 10-11 the count 999,
 -- byte 12 the length of an entry and byte 13 a mark
 unfoldable pub tablePasses : ℕ → ℕ → ℕ → ℕ → List ℕ → Bool
@@ -30,15 +43,15 @@ tablePasses identifier size width mark t =
     && (eqb (number (part t 0 2)) identifier
     && (eqb (number (part t 4 4)) size && (eqb (number (part t 10 2)) 999 && (eqb (getD t 12 0) width && eqb (getD t 13 0) mark))))
 
--- "A1" .. "byte 3 version 09h or 10h; 4-7 the size 16,000; 8-9 zero; 10-11 the count 999; 12 is 16; 13 is 01h"
-unfoldable pub titlesPass : List ℕ → Bool
-titlesPass t =
-    tablePasses 0x4131 16000 16 0x01 t
+-- the identifier; "byte 3 version 09h or 10h; 4-7 the size 16,000; 8-9 zero; 10-11 the count 999; 12 is 16; 13 is 01h"
+unfoldable pub titlesPass : Pair → List ℕ → Bool
+titlesPass pair t =
+    tablePasses (titlesIdentifier pair) 16000 16 0x01 t
     && ((eqb (getD t 3 0) 0x09 || eqb (getD t 3 0) 0x10) && eqb (number (part t 8 2)) 0)
 
--- "M1" .. "byte 3 version 11h or more (later ones are no error); 4-7 the size 32,000; .. 12 is 32; 13 is 02h"
-unfoldable pub rulesPass : List ℕ → Bool
-rulesPass r = tablePasses 0x4D31 32000 32 0x02 r && leb 0x11 (getD r 3 0)
+-- the identifier; "byte 3 version 11h or more (later ones are no error); 4-7 the size 32,000; .. 12 is 32; 13 is 02h"
+unfoldable pub rulesPass : Pair → List ℕ → Bool
+rulesPass pair r = tablePasses (rulesIdentifier pair) 32000 32 0x02 r && leb 0x11 (getD r 3 0)
 
 -- "8-9 the application number"
 abbrev pub rulesApplication : List ℕ → ℕ
@@ -61,15 +74,15 @@ pub record TableHead (identifier size width mark : ℕ) (t : List ℕ) : Type 0 
   pub wide : getD t 12 0 ≡ width
   pub marked : getD t 13 0 ≡ mark
 
--- "A1" .. "byte 3 version 09h or 10h; 4-7 the size 16,000; 8-9 zero; 10-11 the count 999; 12 is 16; 13 is 01h"
-pub record TitlesHead (t : List ℕ) : Type 0 where
-  pub table : TableHead 0x4131 16000 16 0x01 t
+-- the identifier; "byte 3 version 09h or 10h; 4-7 the size 16,000; 8-9 zero; 10-11 the count 999; 12 is 16; 13 is 01h"
+pub record TitlesHead (pair : Pair) (t : List ℕ) : Type 0 where
+  pub table : TableHead (titlesIdentifier pair) 16000 16 0x01 t
   pub version : (getD t 3 0 ≡ 0x09) ⊎ (getD t 3 0 ≡ 0x10)
   pub zero : number (part t 8 2) ≡ 0
 
--- "M1" .. "byte 3 version 11h or more (later ones are no error); 4-7 the size 32,000; .. 12 is 32; 13 is 02h"
-pub record RulesHead (r : List ℕ) : Type 0 where
-  pub table : TableHead 0x4D31 32000 32 0x02 r
+-- the identifier; "byte 3 version 11h or more (later ones are no error); 4-7 the size 32,000; .. 12 is 32; 13 is 02h"
+pub record RulesHead (pair : Pair) (r : List ℕ) : Type 0 where
+  pub table : TableHead (rulesIdentifier pair) 32000 32 0x02 r
   pub version : 0x11 ≤ getD r 3 0
 
 -- THE ANSWERS
@@ -79,16 +92,16 @@ abbrev pub ledgerAnswer : List ℕ → ℕ
 ledgerAnswer l = unless (ledgerPasses l) 7
 
 -- "8 title table length or head wrong"
-abbrev pub titlesAnswer : List ℕ → ℕ
-titlesAnswer t = unless (titlesPass t) 8
+abbrev pub titlesAnswer : Pair → List ℕ → ℕ
+titlesAnswer pair t = unless (titlesPass pair t) 8
 
 -- "9 rule table likewise" (a tally, without ledger, skips the application number)
-abbrev pub rulesAnswer : List ℕ → ℕ
-rulesAnswer r = unless (rulesPass r) 9
+abbrev pub rulesAnswer : Pair → List ℕ → ℕ
+rulesAnswer pair r = unless (rulesPass pair r) 9
 
 -- "its application number other than the ledger's included"
-abbrev pub rulesAnswerFor : ℕ → List ℕ → ℕ
-rulesAnswerFor application r = unless (rulesPass r && eqb (rulesApplication r) application) 9
+abbrev pub rulesAnswerFor : Pair → ℕ → List ℕ → ℕ
+rulesAnswerFor pair application r = unless (rulesPass pair r && eqb (rulesApplication r) application) 9
 
 -- "Formatting a ledger or card writes a fresh one: heads as above (versions 10h, 11h), everything ignored zero,
 -- all rows and entries zero."
@@ -100,8 +113,8 @@ unfoldable pub tableHead : ℕ → ℕ → ℕ → ℕ → ℕ → ℕ → List 
 tableHead identifier version size application width mark =
     bytesOf 2 identifier ++ (0 ∷ version ∷ (bytesOf 4 size ++ (bytesOf 2 application ++ (bytesOf 2 999 ++ (width ∷ mark ∷ [])))))
 
-unfoldable pub freshTitles : List ℕ
-freshTitles = tableHead 0x4131 0x10 16000 0 16 0x01 ++ replicate 15986 0
+unfoldable pub freshTitles : Pair → List ℕ
+freshTitles pair = tableHead (titlesIdentifier pair) 0x10 16000 0 16 0x01 ++ replicate 15986 0
 
-unfoldable pub freshRules : ℕ → List ℕ
-freshRules application = tableHead 0x4D31 0x11 32000 application 32 0x02 ++ replicate 31986 0
+unfoldable pub freshRules : Pair → ℕ → List ℕ
+freshRules pair application = tableHead (rulesIdentifier pair) 0x11 32000 application 32 0x02 ++ replicate 31986 0

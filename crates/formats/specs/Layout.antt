@@ -15,6 +15,8 @@ use Rattle.formats.specs.Rule.{ruleHalf, wipedRule}
 use Rattle.formats.specs.Entry.{kindOf, entryFacts}
 use Rattle.formats.specs.Head.{LedgerHead, TitlesHead, RulesHead, ledgerPasses, titlesPass, rulesPass, freshLedger, freshTitles, freshRules}
 use Rattle.formats.specs.Row.{stateOf, hereRow, plainRow, withPermits}
+use Rattle.formats.specs.declared.head.Pair.{Pair}
+use Rattle.formats.specs.declared.head.Pair.the-variants.{Audio, Picture}
 use Rattle.formats.specs.declared.facts.Facts.{Facts}
 use Rattle.formats.specs.declared.facts.Fillers.{Fillers}
 use Rattle.formats.specs.declared.entry.EntryKind.the-variants.{Free, Copy, Full, Torn}
@@ -204,6 +206,15 @@ pub record FreshLedger (rows application : ℕ) (l : List ℕ) : Type 0 where
   pub bytes-2-3 : part l 2 2 ≡ bytesOf 2 rows
   pub zeros : (i : ℕ) → 4 ≤ i → getD l i 0 ≡ 0
 
+-- the first byte of a title table, "A1" (41h 31h) or "P1" (50h 31h), and of a rule table, "M1" (4Dh 31h) or "P1"
+abbrev pub titlesLetter : Pair → ℕ
+titlesLetter Audio = 0x41
+titlesLetter Picture = 0x50
+
+abbrev pub rulesLetter : Pair → ℕ
+rulesLetter Audio = 0x4D
+rulesLetter Picture = 0x50
+
 -- "(versions 10h, 11h)"
 pub record FreshCard (letter version size application width mark : ℕ) (t : List ℕ) : Type 0 where
   pub long : length t ≡ size
@@ -228,8 +239,11 @@ pub record Halves : Type 0 where
 -- a head passes exactly where it is the one that the paper describes
 pub record Heads : Type 0 where
   pub ledger : (l : List ℕ) → (ledgerPasses l ≡ true) ↔ LedgerHead l
-  pub titles : (t : List ℕ) → (titlesPass t ≡ true) ↔ TitlesHead t
-  pub rules : (r : List ℕ) → (rulesPass r ≡ true) ↔ RulesHead r
+  pub titles : (pair : Pair) (t : List ℕ) → (titlesPass pair t ≡ true) ↔ TitlesHead pair t
+  pub rules : (pair : Pair) (r : List ℕ) → (rulesPass pair r ≡ true) ↔ RulesHead pair r
+  -- no table is of both pairs
+  pub titles-of-one : (t : List ℕ) → TitlesHead Audio t → TitlesHead Picture t → ⊥
+  pub rules-of-one : (r : List ℕ) → RulesHead Audio r → RulesHead Picture r → ⊥
 
 -- what is written in rows, and what state each row of 24 bytes is in
 pub record Rows : Type 0 where
@@ -246,11 +260,11 @@ pub record Entries : Type 0 where
   pub kinds : (t r : List ℕ) → length t ≡ 16 → length r ≡ 32 → Bytes t → Bytes r → Kinds t r
   pub facts : (t r : List ℕ) → HoldsFacts t r (entryFacts t r)
 
--- what formatting writes; "A1" is 41h 31h, and "M1" 4Dh 31h
+-- what formatting writes
 pub record Fresh : Type 0 where
   pub ledger : (rows application : ℕ) → FreshLedger rows application (freshLedger rows application)
-  pub titles : FreshCard 0x41 0x10 16000 0 16 0x01 freshTitles
-  pub rules : (application : ℕ) → FreshCard 0x4D 0x11 32000 application 32 0x02 (freshRules application)
+  pub titles : (pair : Pair) → FreshCard (titlesLetter pair) 0x10 16000 0 16 0x01 (freshTitles pair)
+  pub rules : (pair : Pair) (application : ℕ) → FreshCard (rulesLetter pair) 0x11 32000 application 32 0x02 (freshRules pair application)
 
 pub record Layout : Type 0 where
   pub fields : Fields

@@ -1,9 +1,50 @@
 // The heads of the ledger and of the two card tables. A buffer that is too short for its head is refused and not read.
 ghost use mathlib.Core.Path.{_≡_};
-ghost use Rattle.formats.specs.Head.{ledgerApplication, rowsOf, ledgerAnswer, titlesAnswer, rulesApplication, rulesAnswer, rulesAnswerFor};
+ghost use Prim.Native.Nat.{_+_, _*_, _^_};
+ghost use Rattle.formats.specs.Head.{titlesIdentifier, rulesIdentifier, ledgerApplication, rowsOf, ledgerAnswer, titlesAnswer, rulesApplication, rulesAnswer, rulesAnswerFor};
 use crate::facts;
 use crate::field;
 use crate::refusal;
+
+// A card's title table and rule table make a pair: of audio titles or of picture titles. The identifiers in their heads differ.
+pub enum Pair {
+    Audio,
+    Picture,
+}
+
+// The first eight bytes of a right title table: "A1" or "P1", byte 2 as 0, version 10h, the size.
+fn titles_front(pair: Pair) -> u64
+    ensures { λ r. ⌜ r ≡ titlesIdentifier pair * 2 ^ 48 + 0x1000003e80 ⌝ }
+{
+    match pair {
+        Pair::Audio => 0x4131_0010_0000_3e80,
+        Pair::Picture => 0x5031_0010_0000_3e80,
+    }
+}
+
+// Of a rule table: "M1" or "P1", byte 2 and the version as 0, the size.
+fn rules_front(pair: Pair) -> u64
+    ensures { λ r. ⌜ r ≡ rulesIdentifier pair * 2 ^ 48 + 0x7d00 ⌝ }
+{
+    match pair {
+        Pair::Audio => 0x4d31_0000_0000_7d00,
+        Pair::Picture => 0x5031_0000_0000_7d00,
+    }
+}
+
+// The identifier of a title table.
+pub fn titles_identifier(pair: Pair) -> u64
+    ensures { λ r. ⌜ r ≡ titlesIdentifier pair ⌝ }
+{
+    titles_front(pair) >> 48
+}
+
+// The identifier of a rule table.
+pub fn rules_identifier(pair: Pair) -> u64
+    ensures { λ r. ⌜ r ≡ rulesIdentifier pair ⌝ }
+{
+    rules_front(pair) >> 48
+}
 
 // The ledger's application number.
 pub fn ledger_application(ledger: &[u8]) -> u64
@@ -37,16 +78,17 @@ pub fn check_ledger(ledger: &[u8]) -> u64
 }
 
 // 0 where the title table's length and head are right, else 8. The head is compared eight bytes at a time.
-pub fn check_titles(titles: &[u8]) -> u64
-    ensures { λ r. ⌜ r ≡ titlesAnswer (now (titles .entry)) ⌝ }
+pub fn check_titles(pair: Pair, titles: &[u8]) -> u64
+    ensures { λ r. ⌜ r ≡ titlesAnswer pair (now (titles .entry)) ⌝ }
 {
     if titles.len() != 16000 {
         return refusal::TITLES;
     }
-    // "A1", byte 2 ignored, version 10h or 09h, the size
+    // byte 2 is ignored, and the version is 10h or 09h
     let front = field::read_at(titles, 0, 8) & 0xffff_00ff_ffff_ffff;
-    if front != 0x4131_0010_0000_3e80 {
-        if front != 0x4131_0009_0000_3e80 {
+    let right = titles_front(pair);
+    if front != right {
+        if front != right - 0x0007_0000_0000 {
             return refusal::TITLES;
         }
     }
@@ -66,17 +108,17 @@ pub fn rules_application(rules: &[u8]) -> u64
 
 // 0 where the rule table's length and head are right, whatever its application number, else 9. A version above 11h is
 // no error.
-pub fn check_rules(rules: &[u8]) -> u64
-    ensures { λ r. ⌜ r ≡ rulesAnswer (now (rules .entry)) ⌝ }
+pub fn check_rules(pair: Pair, rules: &[u8]) -> u64
+    ensures { λ r. ⌜ r ≡ rulesAnswer pair (now (rules .entry)) ⌝ }
 {
     if rules.len() != 32000 {
         return refusal::RULES;
     }
-    // "M1", byte 2 ignored, the version, the size
-    if field::read_at(rules, 0, 8) & 0xffff_0000_ffff_ffff != 0x4d31_0000_0000_7d00 {
+    if rules[3] < 0x11 {
         return refusal::RULES;
     }
-    if rules[3] < 0x11 {
+    // byte 2 is ignored
+    if field::read_at(rules, 0, 8) & 0xffff_0000_ffff_ffff != rules_front(pair) {
         return refusal::RULES;
     }
     // the count, 32, 02h, after the application number
@@ -87,10 +129,10 @@ pub fn check_rules(rules: &[u8]) -> u64
 }
 
 // The same, where the application number is to be the one given.
-pub fn check_rules_for(rules: &[u8], application: u64) -> u64
-    ensures { λ r. ⌜ r ≡ rulesAnswerFor application (now (rules .entry)) ⌝ }
+pub fn check_rules_for(pair: Pair, rules: &[u8], application: u64) -> u64
+    ensures { λ r. ⌜ r ≡ rulesAnswerFor pair application (now (rules .entry)) ⌝ }
 {
-    if check_rules(rules) != 0 {
+    if check_rules(pair, rules) != 0 {
         return refusal::RULES;
     }
     if rules_application(rules) != application {

@@ -5,5 +5,5 @@ use Rattle.music_counter.specs.Serve.{streamOf}
 use Rattle.music_counter.specs.History.{ServedHistory}
 
 pub served-history : ServedHistory
-served-history ledger titles rules rows application cardApplication l c s =
-    formatted-history ledger titles rules rows application cardApplication l c (streamOf s .requests)
+served-history pair ledger titles rules rows application cardApplication l c s =
+    formatted-history pair ledger titles rules rows application cardApplication l c (streamOf s .requests)

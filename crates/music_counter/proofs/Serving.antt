@@ -6,6 +6,7 @@ use mathlib.Core.List.{List, [], _∷_, _++_, map, map-append}
 use native.Mathlib.Omega.{arith}
 use native.Mathlib.Numerals.{add-one}
 use lib.ListN.{length, drop, set, length-drop, length-append, length-set, length-map}
+use Rattle.formats.specs.declared.head.Pair.{Pair}
 use Rattle.requests.specs.Request.{readRequest, requestAnswer, kindOf}
 use Rattle.requests.specs.declared.request.Request.{Request}
 use Rattle.requests.specs.declared.request.RequestRead.{RequestRead}
@@ -105,10 +106,10 @@ module _ (f : Answered → ℕ) {places : List ℕ} {log : Log} {numbers : List 
 
 -- requests of s are carried out from `before`: the bytes `rest` are unread, the buffers are b, and `count` requests are noted. What
 -- serving the rest comes to from here is what serving all comes to.
-pub record Serving (s : List ℕ) (before : Buffers) (kinds answers : List ℕ) (rest : List ℕ) (b : Buffers) (kinds′ answers′ : List ℕ) (count : ℕ) : Type 0 where
+pub record Serving (pair : Pair) (s : List ℕ) (before : Buffers) (kinds answers : List ℕ) (rest : List ℕ) (b : Buffers) (kinds′ answers′ : List ℕ) (count : ℕ) : Type 0 where
   pub log : Log
   pub stops : streamOf rest .stop ≡ streamOf s .stop
-  pub comes-to : run (streamOf rest .requests) (record { log = log; buffers = b }) ≡ servedRun s before
+  pub comes-to : run pair (streamOf rest .requests) (record { log = log; buffers = b }) ≡ servedRun pair s before
   pub counts : count + length (streamOf rest .requests) ≡ length (streamOf s .requests)
   pub count-is : count ≡ length log
   pub at-most : count + length rest ≤ length s
@@ -118,9 +119,9 @@ pub record Serving (s : List ℕ) (before : Buffers) (kinds answers : List ℕ) 
   pub titles-length : length (b .titles) ≡ length (before .titles)
   pub rules-length : length (b .rules) ≡ length (before .rules)
 
-pub start : (s : List ℕ) (b : Buffers) (kinds answers : List ℕ) → Serving s b kinds answers s b kinds answers 0
+pub start : (pair : Pair) (s : List ℕ) (b : Buffers) (kinds answers : List ℕ) → Serving pair s b kinds answers s b kinds answers 0
 unfolding inOrder
-start s b kinds answers =
+start pair s b kinds answers =
     record {
       log = [];
       stops = refl;
@@ -135,14 +136,14 @@ start s b kinds answers =
       rules-length = refl;
     }
 
-module _ {s : List ℕ} {before : Buffers} {kinds answers rest : List ℕ} {b : Buffers} {kinds′ answers′ : List ℕ} {count : ℕ}
-    (r : Serving s before kinds answers rest b kinds′ answers′ count) where
+module _ {pair : Pair} {s : List ℕ} {before : Buffers} {kinds answers rest : List ℕ} {b : Buffers} {kinds′ answers′ : List ℕ} {count : ℕ}
+    (r : Serving pair s before kinds answers rest b kinds′ answers′ count) where
   -- the stream of the rest has no request
-  ended : {w : ℕ} → streamOf rest ≡ record { requests = []; stop = w } → Serves s before (record { stop = w; count = count }) b kinds kinds′ answers answers′
+  ended : {w : ℕ} → streamOf rest ≡ record { requests = []; stop = w } → Serves pair s before (record { stop = w; count = count }) b kinds kinds′ answers answers′
   unfolding run
   ended e =
       let here : Run = record { log = r .log; buffers = b } in
-      let all : here ≡ servedRun s before = ap (λ (t : Stream). run (t .requests) here) (sym e) ∙ r .comes-to in
+      let all : here ≡ servedRun pair s before = ap (λ (t : Stream). run pair (t .requests) here) (sym e) ∙ r .comes-to in
       let none : length (streamOf rest .requests) ≡ 0 = ap (λ (t : Stream). length (t .requests)) e in
       record {
         stop = ap (λ (t : Stream). t .stop) (sym e) ∙ r .stops;
@@ -153,7 +154,7 @@ module _ {s : List ℕ} {before : Buffers} {kinds answers rest : List ℕ} {b : 
       }
 
   -- nothing is left
-  pub finished : length rest ≡ 0 → Serves s before (record { stop = 0; count = count }) b kinds kinds′ answers answers′
+  pub finished : length rest ≡ 0 → Serves pair s before (record { stop = 0; count = count }) b kinds kinds′ answers answers′
   finished h = ended (stream-ends rest (omega arith))
 
   -- x was read at the front of the rest
@@ -163,7 +164,7 @@ module _ {s : List ℕ} {before : Buffers} {kinds answers rest : List ℕ} {b : 
 
     -- it is a refusal
     pub faulted : (length rest ≡ 0 → ⊥) → {w n : ℕ} → x ≡ Faulty w → n ≡ requestAnswer x .number
-        → Serves s before (record { stop = n; count = count }) b kinds kinds′ answers answers′
+        → Serves pair s before (record { stop = n; count = count }) b kinds kinds′ answers answers′
     faulted h e d = rw (d ∙ ap (λ (y : RequestRead). requestAnswer y .number) e) (ended (stream-fault rest (omega arith) (found e)))
 
     -- it is a request
@@ -177,19 +178,19 @@ module _ {s : List ℕ} {before : Buffers} {kinds answers rest : List ℕ} {b : 
         pub fewer : length unread < length rest
         fewer = rw after-it (shorter rest (found e))
 
-        pub served : {kind answer : ℕ} {after : Buffers} {kinds″ answers″ : List ℕ} → Answers q b answer after → kind ≡ kindOf q → kinds″ ≡ set kinds′ count kind
-            → answers″ ≡ set answers′ count answer → Serving s before kinds answers unread after kinds″ answers″ (count + 1)
+        pub served : {kind answer : ℕ} {after : Buffers} {kinds″ answers″ : List ℕ} → Answers pair q b answer after → kind ≡ kindOf q → kinds″ ≡ set kinds′ count kind
+            → answers″ ≡ set answers′ count answer → Serving pair s before kinds answers unread after kinds″ answers″ (count + 1)
         unfolding run
         served made kind-is kinds-set answers-set =
             let next = stream-next rest (found e) in
-            let kept = in-bounds q b in
-            let line : Answered = record { call = q; answer = perform q b .answer } in
+            let kept = in-bounds pair q b in
+            let line : Answered = record { call = q; answer = perform pair q b .answer } in
             let answer-is = ap (λ (p : Performed). p .answer) made in
             rw (after-it, ap (λ (p : Performed). p .buffers) made)
             (record {
               log = line ∷ r .log;
               stops = ap (λ (t : Stream). t .stop) (sym next) ∙ r .stops;
-              comes-to = ap (λ (t : Stream). run (t .requests) (record { log = r .log; buffers = b })) (sym next) ∙ r .comes-to;
+              comes-to = ap (λ (t : Stream). run pair (t .requests) (record { log = r .log; buffers = b })) (sym next) ∙ r .comes-to;
               counts = omega (arith, r .counts, ap (λ (t : Stream). length (t .requests)) next);
               count-is = omega (arith, r .count-is);
               at-most = omega (arith, shorter rest (found e), r .at-most);

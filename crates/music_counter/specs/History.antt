@@ -2,6 +2,7 @@
 use Prim.Native.Nat.{ℕ}
 use mathlib.Core.Path.{_≡_}
 use mathlib.Core.List.{List}
+use Rattle.formats.specs.declared.head.Pair.{Pair}
 use Rattle.calls.specs.History.{After}
 use Rattle.tables.specs.Format.{ledgerFormatting, cardFormatting}
 use Rattle.tables.specs.History.{formatted}
@@ -11,5 +12,5 @@ use Rattle.music_counter.specs.Serve.{servedRun}
 -- adds up
 abbrev pub ServedHistory : Type 0
 ServedHistory =
-    (ledger titles rules : List ℕ) (rows application cardApplication : ℕ) → ledgerFormatting ledger rows ≡ 0 → cardFormatting titles rules ≡ 0
-    → (s : List ℕ) → After (servedRun s (formatted ledger titles rules rows application cardApplication .buffers))
+    (pair : Pair) (ledger titles rules : List ℕ) (rows application cardApplication : ℕ) → ledgerFormatting ledger rows ≡ 0 → cardFormatting titles rules ≡ 0
+    → (s : List ℕ) → After (servedRun pair s (formatted pair ledger titles rules rows application cardApplication .buffers))

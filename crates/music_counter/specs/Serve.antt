@@ -3,6 +3,7 @@ use Prim.Native.Nat.{ℕ, zero, suc}
 use mathlib.Core.Path.{_≡_}
 use mathlib.Core.List.{List, [], _∷_, map}
 use lib.ListN.{length, drop}
+use Rattle.formats.specs.declared.head.Pair.{Pair}
 use Rattle.requests.specs.Request.{readRequest, kindOf}
 use Rattle.requests.specs.declared.request.Request.{Request}
 use Rattle.requests.specs.declared.request.RequestRead.{RequestRead}
@@ -31,8 +32,8 @@ unfoldable pub streamOf : List ℕ → Stream
 streamOf s = readStream (length s) s
 
 -- the run of a stream's requests from what a server is lent
-abbrev pub servedRun : List ℕ → Buffers → Run
-servedRun s b = run (streamOf s .requests) (from b)
+abbrev pub servedRun : Pair → List ℕ → Buffers → Run
+servedRun pair s b = run pair (streamOf s .requests) (from b)
 
 -- "a line per request, kind and answer": the kinds, beside `answersIn`, in the order of the requests
 abbrev pub kindsIn : Run → List ℕ
@@ -46,9 +47,9 @@ overwritten (x ∷ places) (n ∷ numbers) = n ∷ overwritten places numbers
 
 -- the stream s was served from the buffers `before`: the number that stopped it and how many requests it had, the buffers, and
 -- the places for kinds and answers, as they were and as they are
-pub record Serves (s : List ℕ) (before : Buffers) (r : Served) (after : Buffers) (kinds kinds′ answers answers′ : List ℕ) : Type 0 where
+pub record Serves (pair : Pair) (s : List ℕ) (before : Buffers) (r : Served) (after : Buffers) (kinds kinds′ answers answers′ : List ℕ) : Type 0 where
   pub stop : r .stop ≡ streamOf s .stop
   pub count : r .count ≡ length (streamOf s .requests)
-  pub buffers : after ≡ servedRun s before .buffers
-  pub kinds-are : kinds′ ≡ overwritten kinds (kindsIn (servedRun s before))
-  pub answers-are : answers′ ≡ overwritten answers (answersIn (servedRun s before))
+  pub buffers : after ≡ servedRun pair s before .buffers
+  pub kinds-are : kinds′ ≡ overwritten kinds (kindsIn (servedRun pair s before))
+  pub answers-are : answers′ ≡ overwritten answers (answersIn (servedRun pair s before))

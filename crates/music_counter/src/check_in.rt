@@ -8,6 +8,7 @@ ghost use Rattle.calls.specs.Effect.{effect};
 ghost use Rattle.music_counter.specs.Answer.{Answers, Inside};
 use calls::count;
 use formats::facts::EntryNumber;
+use formats::head::Pair;
 use tables::card;
 use tables::ledger;
 
@@ -24,17 +25,18 @@ fn apply(ledger: &mut [u8], titles: &mut [u8], entry: EntryNumber, f1: u64)
 
 // Answers 0, or 5, 7, 8, 9, 10, 11, 15 or 16 with nothing changed.
 pub fn check_in(
+    pair: Pair,
     ledger: &mut [u8],
     titles: &mut [u8],
     rules: &[u8],
     entry: EntryNumber,
     f1: u64,
 ) -> u64
-    ensures { λ r. ⌜ Answers (CheckIn entry f1)
+    ensures { λ r. ⌜ Answers pair (CheckIn entry f1)
         (lent (ledger .entry) (titles .entry) (rules .entry)) r
         (lent (ledger .exit) (titles .exit) (rules .exit)) ⌝ }
 {
-    let w = refusals::check_in::refusal(ledger, titles, rules, entry, f1);
+    let w = refusals::check_in::refusal(pair, ledger, titles, rules, entry, f1);
     if w != 0 {
         return w;
     }

@@ -9,6 +9,7 @@ ghost use Rattle.music_counter.specs.Answer.{Answers, Inside};
 use calls::count;
 use formats::facts::ContentId;
 use formats::facts::EntryNumber;
+use formats::head::Pair;
 use tables::ledger;
 
 fn apply(ledger: &mut [u8], titles: &mut [u8], content: ContentId, entry: EntryNumber)
@@ -23,17 +24,18 @@ fn apply(ledger: &mut [u8], titles: &mut [u8], content: ContentId, entry: EntryN
 
 // Answers 0, or 4, 5, 7, 8, 9, 10, 11 or 12 with nothing changed.
 pub fn check_out(
+    pair: Pair,
     ledger: &mut [u8],
     titles: &mut [u8],
     rules: &[u8],
     content: ContentId,
     entry: EntryNumber,
 ) -> u64
-    ensures { λ r. ⌜ Answers (CheckOut content entry)
+    ensures { λ r. ⌜ Answers pair (CheckOut content entry)
         (lent (ledger .entry) (titles .entry) (rules .entry)) r
         (lent (ledger .exit) (titles .exit) (rules .exit)) ⌝ }
 {
-    let w = refusals::check_out::refusal(ledger, titles, rules, content, entry);
+    let w = refusals::check_out::refusal(pair, ledger, titles, rules, content, entry);
     if w != 0 {
         return w;
     }

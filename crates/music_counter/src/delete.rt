@@ -6,6 +6,7 @@ ghost use Rattle.calls.specs.Effect.{effect};
 ghost use Rattle.music_counter.specs.Answer.{Answers, Inside};
 use formats::facts::EntryNumber;
 use formats::facts::Fillers;
+use formats::head::Pair;
 use formats::row;
 use tables::card;
 
@@ -31,17 +32,18 @@ fn apply(
 
 // Answers 0, or 5, 7, 8, 9, 10, 11 or 16 with nothing changed.
 pub fn delete(
+    pair: Pair,
     ledger: &mut [u8],
     titles: &mut [u8],
     rules: &mut [u8],
     entry: EntryNumber,
     fillers: Fillers,
 ) -> u64
-    ensures { λ r. ⌜ Answers (Delete entry fillers)
+    ensures { λ r. ⌜ Answers pair (Delete entry fillers)
         (lent (ledger .entry) (titles .entry) (rules .entry)) r
         (lent (ledger .exit) (titles .exit) (rules .exit)) ⌝ }
 {
-    let w = refusals::delete::refusal(ledger, titles, rules, entry, fillers);
+    let w = refusals::delete::refusal(pair, ledger, titles, rules, entry, fillers);
     if w != 0 {
         return w;
     }

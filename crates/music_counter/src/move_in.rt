@@ -7,6 +7,7 @@ ghost use Rattle.music_counter.specs.Answer.{Answers, Inside};
 use calls::count;
 use formats::facts::ContentId;
 use formats::facts::EntryNumber;
+use formats::head::Pair;
 use tables::ledger;
 
 fn apply(
@@ -27,6 +28,7 @@ fn apply(
 
 // Answers 0, or 4, 5, 7, 8, 9, 10, 11, 12 or 14 with nothing changed.
 pub fn move_in(
+    pair: Pair,
     ledger: &mut [u8],
     titles: &mut [u8],
     rules: &mut [u8],
@@ -34,11 +36,11 @@ pub fn move_in(
     entry: EntryNumber,
     hash: u64,
 ) -> u64
-    ensures { λ r. ⌜ Answers (MoveIn content entry hash)
+    ensures { λ r. ⌜ Answers pair (MoveIn content entry hash)
         (lent (ledger .entry) (titles .entry) (rules .entry)) r
         (lent (ledger .exit) (titles .exit) (rules .exit)) ⌝ }
 {
-    let w = refusals::move_in::refusal(ledger, titles, rules, content, entry);
+    let w = refusals::move_in::refusal(pair, ledger, titles, rules, content, entry);
     if w != 0 {
         return w;
     }

@@ -8,6 +8,7 @@ ghost use Rattle.music_counter.specs.Answer.{Answers, Inside};
 use calls::count;
 use formats::facts::EntryNumber;
 use formats::facts::Fillers;
+use formats::head::Pair;
 use tables::card;
 
 fn apply(
@@ -30,6 +31,7 @@ fn apply(
 
 // Answers 0, or 5, 7, 8, 9, 10, 11, 12, 13 or 16 with nothing changed.
 pub fn move_out(
+    pair: Pair,
     ledger: &mut [u8],
     titles: &mut [u8],
     rules: &mut [u8],
@@ -37,11 +39,11 @@ pub fn move_out(
     hash: u64,
     fillers: Fillers,
 ) -> u64
-    ensures { λ r. ⌜ Answers (MoveOut entry hash fillers)
+    ensures { λ r. ⌜ Answers pair (MoveOut entry hash fillers)
         (lent (ledger .entry) (titles .entry) (rules .entry)) r
         (lent (ledger .exit) (titles .exit) (rules .exit)) ⌝ }
 {
-    let w = refusals::move_out::refusal(ledger, titles, rules, entry, hash, fillers);
+    let w = refusals::move_out::refusal(pair, ledger, titles, rules, entry, hash, fillers);
     if w != 0 {
         return w;
     }

@@ -11,13 +11,20 @@ use crate::move_in;
 use crate::move_out;
 use crate::record;
 use crate::register;
+use formats::head::Pair;
 use requests::request;
 use requests::request::Request;
 use requests::request::RequestRead;
 
-// Carries out a request that has been read.
-pub fn perform(ledger: &mut [u8], titles: &mut [u8], rules: &mut [u8], request: Request) -> u64
-    ensures { λ r. ⌜ Answers request
+// Carries out a request that has been read, on a card of the pair.
+pub fn perform(
+    pair: Pair,
+    ledger: &mut [u8],
+    titles: &mut [u8],
+    rules: &mut [u8],
+    request: Request,
+) -> u64
+    ensures { λ r. ⌜ Answers pair request
         (lent (ledger .entry) (titles .entry) (rules .entry)) r
         (lent (ledger .exit) (titles .exit) (rules .exit)) ⌝ }
 {
@@ -28,23 +35,25 @@ pub fn perform(ledger: &mut [u8], titles: &mut [u8], rules: &mut [u8], request: 
             entry,
             facts,
             hash,
-        } => { record::record(ledger, titles, rules, content, entry, facts, hash) }
+        } => { record::record(pair, ledger, titles, rules, content, entry, facts, hash) }
         Request::CheckOut { content, entry } => {
-            check_out::check_out(ledger, titles, rules, content, entry)
+            check_out::check_out(pair, ledger, titles, rules, content, entry)
         }
-        Request::CheckIn { entry, f1 } => { check_in::check_in(ledger, titles, rules, entry, f1) }
+        Request::CheckIn { entry, f1 } => {
+            check_in::check_in(pair, ledger, titles, rules, entry, f1)
+        }
         Request::MoveOut {
             entry,
             hash,
             fillers,
-        } => { move_out::move_out(ledger, titles, rules, entry, hash, fillers) }
+        } => { move_out::move_out(pair, ledger, titles, rules, entry, hash, fillers) }
         Request::MoveIn {
             content,
             entry,
             hash,
-        } => { move_in::move_in(ledger, titles, rules, content, entry, hash) }
+        } => { move_in::move_in(pair, ledger, titles, rules, content, entry, hash) }
         Request::Delete { entry, fillers } => {
-            delete::delete(ledger, titles, rules, entry, fillers)
+            delete::delete(pair, ledger, titles, rules, entry, fillers)
         }
     }
 }
@@ -67,6 +76,7 @@ fn note(places: &mut [u64], i: usize, number: u64)
 // Serves a whole stream, to its end or to the first request that cannot be read; everything before it is carried out. `kinds` and
 // `answers` get each request's, as many as they have places.
 pub fn all(
+    pair: Pair,
     ledger: &mut [u8],
     titles: &mut [u8],
     rules: &mut [u8],
@@ -74,7 +84,7 @@ pub fn all(
     kinds: &mut [u64],
     answers: &mut [u64],
 ) -> Served
-    ensures { λ r. ⌜ Serves (now (s .entry)) (lent (ledger .entry) (titles .entry) (rules .entry)) r
+    ensures { λ r. ⌜ Serves pair (now (s .entry)) (lent (ledger .entry) (titles .entry) (rules .entry)) r
         (lent (ledger .exit) (titles .exit) (rules .exit))
         (now (kinds .entry)) (now (kinds .exit)) (now (answers .entry)) (now (answers .exit)) ⌝ }
 {
@@ -88,7 +98,7 @@ pub fn all(
                 count,
             };
         };
-        let answer = perform(ledger, titles, rules, request);
+        let answer = perform(pair, ledger, titles, rules, request);
         note(kinds, count, request::kind(request));
         note(answers, count, answer);
         count += 1;

@@ -7,6 +7,7 @@ use mathlib.Core.List.{List, _++_, append-assoc}
 use mathlib.Core.Bool.{Bool, true, false, not, _&&_, _||_}
 use lib.Dec.{eqb}
 use borrow.Author.Tests.{eq-eqb, ne-eqb}
+use Rattle.formats.specs.declared.head.Pair.{Pair}
 use Rattle.formats.specs.Entry.{kindAnswer}
 use Rattle.formats.specs.Row.{stateAnswer}
 use Rattle.formats.specs.declared.entry.EntryKind.{EntryKind}
@@ -43,47 +44,47 @@ module _ {A : Type 0} {r : A} where
 -- A CALL'S REFUSAL, stage by stage: its arguments, the heads of what it is lent, and what stands there
 
 -- none of its heads' numbers is 0
-head-numbers : (k : Request) (b : Buffers) → refusing (headConditions k b) ≡ true
-head-numbers (Register c f) b = refl
-head-numbers (Record c j f h) b = refl
-head-numbers (CheckOut c j) b = refl
-head-numbers (CheckIn j f1) b = refl
-head-numbers (MoveOut j h f) b = refl
-head-numbers (MoveIn c j h) b = refl
-head-numbers (Delete j f) b = refl
+head-numbers : (pair : Pair) (k : Request) (b : Buffers) → refusing (headConditions pair k b) ≡ true
+head-numbers pair (Register c f) b = refl
+head-numbers pair (Record c j f h) b = refl
+head-numbers pair (CheckOut c j) b = refl
+head-numbers pair (CheckIn j f1) b = refl
+head-numbers pair (MoveOut j h f) b = refl
+head-numbers pair (MoveIn c j h) b = refl
+head-numbers pair (Delete j f) b = refl
 
 -- its arguments refuse
-module _ (k : Request) (b : Buffers) {w : ℕ} (e : w ≡ first (argumentConditions k)) where
-  pub by-arguments : w ≢ 0 → w ≡ refusal k b
+module _ (pair : Pair) (k : Request) (b : Buffers) {w : ℕ} (e : w ≡ first (argumentConditions k)) where
+  pub by-arguments : w ≢ 0 → w ≡ refusal pair k b
   unfolding refusal conditions
-  by-arguments some = first-stage (argumentConditions k) (headConditions k b ++ stateConditions k b) e some
+  by-arguments some = first-stage (argumentConditions k) (headConditions pair k b ++ stateConditions pair k b) e some
 
   -- they do not, and the heads refuse
-  module _ (zero : w ≡ 0) {v : ℕ} (h : v ≡ first (headConditions k b)) where
-    past-arguments : {n : ℕ} → n ≡ first (headConditions k b ++ stateConditions k b) → n ≡ refusal k b
+  module _ (zero : w ≡ 0) {v : ℕ} (h : v ≡ first (headConditions pair k b)) where
+    past-arguments : {n : ℕ} → n ≡ first (headConditions pair k b ++ stateConditions pair k b) → n ≡ refusal pair k b
     unfolding refusal conditions
-    past-arguments q = next-stage (argumentConditions k) (headConditions k b ++ stateConditions k b) (argument-numbers k) (sym e ∙ zero) q
+    past-arguments q = next-stage (argumentConditions k) (headConditions pair k b ++ stateConditions pair k b) (argument-numbers k) (sym e ∙ zero) q
 
-    pub by-heads : v ≢ 0 → v ≡ refusal k b
-    by-heads some = past-arguments (first-stage (headConditions k b) (stateConditions k b) h some)
+    pub by-heads : v ≢ 0 → v ≡ refusal pair k b
+    by-heads some = past-arguments (first-stage (headConditions pair k b) (stateConditions pair k b) h some)
 
     -- they do not either, and the state decides
-    pub by-state : {n : ℕ} → v ≡ 0 → n ≡ first (stateConditions k b) → n ≡ refusal k b
-    by-state none q = past-arguments (next-stage (headConditions k b) (stateConditions k b) (head-numbers k b) (sym h ∙ none) q)
+    pub by-state : {n : ℕ} → v ≡ 0 → n ≡ first (stateConditions pair k b) → n ≡ refusal pair k b
+    by-state none q = past-arguments (next-stage (headConditions pair k b) (stateConditions pair k b) (head-numbers pair k b) (sym h ∙ none) q)
 
 -- arguments and heads in one
-module _ (k : Request) (b : Buffers) {w : ℕ} (e : w ≡ first (argumentConditions k ++ headConditions k b)) where
-  apart : first ((argumentConditions k ++ headConditions k b) ++ stateConditions k b) ≡ refusal k b
+module _ (pair : Pair) (k : Request) (b : Buffers) {w : ℕ} (e : w ≡ first (argumentConditions k ++ headConditions pair k b)) where
+  apart : first ((argumentConditions k ++ headConditions pair k b) ++ stateConditions pair k b) ≡ refusal pair k b
   unfolding refusal conditions
-  apart = ap first (append-assoc (argumentConditions k) (headConditions k b) (stateConditions k b))
+  apart = ap first (append-assoc (argumentConditions k) (headConditions pair k b) (stateConditions pair k b))
 
-  pub refused-before : w ≢ 0 → w ≡ refusal k b
-  refused-before some = first-stage (argumentConditions k ++ headConditions k b) (stateConditions k b) e some ∙ apart
+  pub refused-before : w ≢ 0 → w ≡ refusal pair k b
+  refused-before some = first-stage (argumentConditions k ++ headConditions pair k b) (stateConditions pair k b) e some ∙ apart
 
-  pub past-before : {n : ℕ} → w ≡ 0 → n ≡ first (stateConditions k b) → n ≡ refusal k b
+  pub past-before : {n : ℕ} → w ≡ 0 → n ≡ first (stateConditions pair k b) → n ≡ refusal pair k b
   past-before zero q =
-      next-stage (argumentConditions k ++ headConditions k b) (stateConditions k b)
-      (both-refuse (argumentConditions k) (headConditions k b) (argument-numbers k) (head-numbers k b)) (sym e ∙ zero) q
+      next-stage (argumentConditions k ++ headConditions pair k b) (stateConditions pair k b)
+      (both-refuse (argumentConditions k) (headConditions pair k b) (argument-numbers k) (head-numbers pair k b)) (sym e ∙ zero) q
       ∙ apart
 
 -- a number that is tested for a value

@@ -1,5 +1,6 @@
 // The refusals of check-in: 5, 7 to 11, 15 and 16.
 ghost use mathlib.Core.Path.{_≡_};
+ghost use Rattle.formats.specs.declared.head.Pair.{Pair};
 ghost use Rattle.requests.specs.declared.request.Request.the-variants.{CheckIn};
 ghost use Rattle.calls.specs.Buffers.{lent};
 ghost use Rattle.calls.specs.Refusal.{first};
@@ -7,12 +8,13 @@ ghost use Rattle.calls.specs.Conditions.{stateConditions};
 ghost use Rattle.calls.specs.Perform.{refusal};
 use crate::refusal;
 use formats::facts::EntryNumber;
+use formats::head::Pair;
 use tables::card;
 use tables::ledger;
 
 fn state(ledger: &[u8], titles: &[u8], rules: &[u8], entry: EntryNumber, f1: u64) -> u64
-    ensures { λ r. ⌜ r ≡ first (stateConditions (CheckIn entry f1)
-        (lent (ledger .entry) (titles .entry) (rules .entry))) ⌝ }
+    ensures { λ r. ⌜ ((pair : Pair) → r ≡ first (stateConditions pair (CheckIn entry f1)
+        (lent (ledger .entry) (titles .entry) (rules .entry)))) ⌝ }
 {
     let kind = card::kind(titles, rules, entry);
     if !card::is_copy(kind) {
@@ -33,11 +35,18 @@ fn state(ledger: &[u8], titles: &[u8], rules: &[u8], entry: EntryNumber, f1: u64
     0
 }
 
-pub fn refusal(ledger: &[u8], titles: &[u8], rules: &[u8], entry: EntryNumber, f1: u64) -> u64
-    ensures { λ r. ⌜ r ≡ refusal (CheckIn entry f1)
+pub fn refusal(
+    pair: Pair,
+    ledger: &[u8],
+    titles: &[u8],
+    rules: &[u8],
+    entry: EntryNumber,
+    f1: u64,
+) -> u64
+    ensures { λ r. ⌜ r ≡ refusal pair (CheckIn entry f1)
         (lent (ledger .entry) (titles .entry) (rules .entry)) ⌝ }
 {
-    let w = crate::before_entry(ledger, titles, rules, entry);
+    let w = crate::before_entry(pair, ledger, titles, rules, entry);
     if w != 0 {
         return w;
     }

@@ -1,5 +1,6 @@
 // The refusals of check-out: 4, 5, 7 to 12.
 ghost use mathlib.Core.Path.{_≡_};
+ghost use Rattle.formats.specs.declared.head.Pair.{Pair};
 ghost use Rattle.requests.specs.declared.request.Request.the-variants.{CheckOut};
 ghost use Rattle.calls.specs.Buffers.{lent};
 ghost use Rattle.calls.specs.Refusal.{first};
@@ -8,12 +9,13 @@ ghost use Rattle.calls.specs.Perform.{refusal};
 use crate::refusal;
 use formats::facts::ContentId;
 use formats::facts::EntryNumber;
+use formats::head::Pair;
 use tables::card;
 use tables::ledger;
 
 fn state(ledger: &[u8], titles: &[u8], rules: &[u8], content: ContentId, entry: EntryNumber) -> u64
-    ensures { λ r. ⌜ r ≡ first (stateConditions (CheckOut content entry)
-        (lent (ledger .entry) (titles .entry) (rules .entry))) ⌝ }
+    ensures { λ r. ⌜ ((pair : Pair) → r ≡ first (stateConditions pair (CheckOut content entry)
+        (lent (ledger .entry) (titles .entry) (rules .entry)))) ⌝ }
 {
     let kind = card::kind(titles, rules, entry);
     if !card::is_free(kind) {
@@ -31,16 +33,17 @@ fn state(ledger: &[u8], titles: &[u8], rules: &[u8], content: ContentId, entry: 
 }
 
 pub fn refusal(
+    pair: Pair,
     ledger: &[u8],
     titles: &[u8],
     rules: &[u8],
     content: ContentId,
     entry: EntryNumber,
 ) -> u64
-    ensures { λ r. ⌜ r ≡ refusal (CheckOut content entry)
+    ensures { λ r. ⌜ r ≡ refusal pair (CheckOut content entry)
         (lent (ledger .entry) (titles .entry) (rules .entry)) ⌝ }
 {
-    let w = crate::before_both(ledger, titles, rules, content, entry);
+    let w = crate::before_both(pair, ledger, titles, rules, content, entry);
     if w != 0 {
         return w;
     }

@@ -8,12 +8,20 @@ ghost use Rattle.calls.specs.Perform.{refusal};
 use crate::refusal;
 use formats::facts::EntryNumber;
 use formats::facts::Fillers;
+use formats::head::Pair;
 use tables::card;
 use tables::ledger;
 
 // Of a copy the row is not looked at, and only the title half is to be wiped.
-fn state(ledger: &[u8], titles: &[u8], rules: &[u8], entry: EntryNumber, fillers: Fillers) -> u64
-    ensures { λ r. ⌜ r ≡ first (stateConditions (Delete entry fillers)
+fn state(
+    pair: Pair,
+    ledger: &[u8],
+    titles: &[u8],
+    rules: &[u8],
+    entry: EntryNumber,
+    fillers: Fillers,
+) -> u64
+    ensures { λ r. ⌜ r ≡ first (stateConditions pair (Delete entry fillers)
         (lent (ledger .entry) (titles .entry) (rules .entry))) ⌝ }
 {
     let kind = card::kind(titles, rules, entry);
@@ -32,25 +40,26 @@ fn state(ledger: &[u8], titles: &[u8], rules: &[u8], entry: EntryNumber, fillers
     if card::leaves_title_key(titles, entry, fillers.f1) {
         return refusal::FILLER;
     }
-    if card::leaves_sti_key(rules, entry, fillers.f2) {
+    if card::leaves_sti_key(pair, rules, entry, fillers.f2) {
         return refusal::FILLER;
     }
     0
 }
 
 pub fn refusal(
+    pair: Pair,
     ledger: &[u8],
     titles: &[u8],
     rules: &[u8],
     entry: EntryNumber,
     fillers: Fillers,
 ) -> u64
-    ensures { λ r. ⌜ r ≡ refusal (Delete entry fillers)
+    ensures { λ r. ⌜ r ≡ refusal pair (Delete entry fillers)
         (lent (ledger .entry) (titles .entry) (rules .entry)) ⌝ }
 {
-    let w = crate::before_entry(ledger, titles, rules, entry);
+    let w = crate::before_entry(pair, ledger, titles, rules, entry);
     if w != 0 {
         return w;
     }
-    state(ledger, titles, rules, entry, fillers)
+    state(pair, ledger, titles, rules, entry, fillers)
 }

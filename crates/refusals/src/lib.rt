@@ -7,6 +7,7 @@ ghost use Rattle.refusals.specs.Before.{entryConditions, titleConditions
 use formats::facts;
 use formats::facts::ContentId;
 use formats::facts::EntryNumber;
+use formats::head::Pair;
 use tables::heads;
 
 pub mod check_in;
@@ -19,29 +20,30 @@ pub mod refusal;
 pub mod register;
 
 // What a call that names an entry tests before it looks there: 5, then 7, 8 and 9.
-fn before_entry(ledger: &[u8], titles: &[u8], rules: &[u8], entry: EntryNumber) -> u64
-    ensures { λ r. ⌜ r ≡ first (entryConditions (entry .0)
+fn before_entry(pair: Pair, ledger: &[u8], titles: &[u8], rules: &[u8], entry: EntryNumber) -> u64
+    ensures { λ r. ⌜ r ≡ first (entryConditions pair (entry .0)
         (lent (ledger .entry) (titles .entry) (rules .entry))) ⌝ }
 {
     if !facts::is_numbered(entry.0) {
         return formats::refusal::ENTRY_NUMBER;
     }
-    heads::check(ledger, titles, rules)
+    heads::check(pair, ledger, titles, rules)
 }
 
 // And one that names a title too: 4, and then the same.
 fn before_both(
+    pair: Pair,
     ledger: &[u8],
     titles: &[u8],
     rules: &[u8],
     content: ContentId,
     entry: EntryNumber,
 ) -> u64
-    ensures { λ r. ⌜ r ≡ first (titleConditions (content .0) (entry .0)
+    ensures { λ r. ⌜ r ≡ first (titleConditions pair (content .0) (entry .0)
         (lent (ledger .entry) (titles .entry) (rules .entry))) ⌝ }
 {
     if !facts::is_numbered(content.0) {
         return formats::refusal::CONTENT_ID;
     }
-    before_entry(ledger, titles, rules, entry)
+    before_entry(pair, ledger, titles, rules, entry)
 }

@@ -1,6 +1,7 @@
 // The refusals of move in: 4, 5, 7 to 12, and 14. Trigger and rights are those of the row; the hash is not tested.
 ghost use mathlib.Core.Path.{_≡_};
 ghost use Prim.Native.Nat.{ℕ};
+ghost use Rattle.formats.specs.declared.head.Pair.{Pair};
 ghost use Rattle.requests.specs.declared.request.Request.the-variants.{MoveIn};
 ghost use Rattle.calls.specs.Buffers.{lent};
 ghost use Rattle.calls.specs.Refusal.{first};
@@ -10,13 +11,14 @@ use crate::refusal;
 use calls::count;
 use formats::facts::ContentId;
 use formats::facts::EntryNumber;
+use formats::head::Pair;
 use tables::card;
 use tables::copies;
 use tables::ledger;
 
 // The card is searched for a copy last, when nothing else refuses.
 fn state(ledger: &[u8], titles: &[u8], rules: &[u8], content: ContentId, entry: EntryNumber) -> u64
-    ensures { λ r. ⌜ ((hash : ℕ) → r ≡ first (stateConditions (MoveIn content entry hash)
+    ensures { λ r. ⌜ ((pair : Pair) (hash : ℕ) → r ≡ first (stateConditions pair (MoveIn content entry hash)
         (lent (ledger .entry) (titles .entry) (rules .entry)))) ⌝ }
 {
     let kind = card::kind(titles, rules, entry);
@@ -38,16 +40,17 @@ fn state(ledger: &[u8], titles: &[u8], rules: &[u8], content: ContentId, entry: 
 }
 
 pub fn refusal(
+    pair: Pair,
     ledger: &[u8],
     titles: &[u8],
     rules: &[u8],
     content: ContentId,
     entry: EntryNumber,
 ) -> u64
-    ensures { λ r. ⌜ ((hash : ℕ) → r ≡ refusal (MoveIn content entry hash)
+    ensures { λ r. ⌜ ((hash : ℕ) → r ≡ refusal pair (MoveIn content entry hash)
         (lent (ledger .entry) (titles .entry) (rules .entry))) ⌝ }
 {
-    let w = crate::before_both(ledger, titles, rules, content, entry);
+    let w = crate::before_both(pair, ledger, titles, rules, content, entry);
     if w != 0 {
         return w;
     }

@@ -8,10 +8,12 @@ ghost use Rattle.calls.specs.Perform.{refusal};
 use crate::refusal;
 use formats::facts::EntryNumber;
 use formats::facts::Fillers;
+use formats::head::Pair;
 use tables::card;
 use tables::ledger;
 
 fn state(
+    pair: Pair,
     ledger: &[u8],
     titles: &[u8],
     rules: &[u8],
@@ -19,7 +21,7 @@ fn state(
     hash: u64,
     fillers: Fillers,
 ) -> u64
-    ensures { λ r. ⌜ r ≡ first (stateConditions (MoveOut entry hash fillers)
+    ensures { λ r. ⌜ r ≡ first (stateConditions pair (MoveOut entry hash fillers)
         (lent (ledger .entry) (titles .entry) (rules .entry))) ⌝ }
 {
     if !card::is_full(card::kind(titles, rules, entry)) {
@@ -37,13 +39,14 @@ fn state(
     if card::leaves_title_key(titles, entry, fillers.f1) {
         return refusal::FILLER;
     }
-    if card::leaves_sti_key(rules, entry, fillers.f2) {
+    if card::leaves_sti_key(pair, rules, entry, fillers.f2) {
         return refusal::FILLER;
     }
     0
 }
 
 pub fn refusal(
+    pair: Pair,
     ledger: &[u8],
     titles: &[u8],
     rules: &[u8],
@@ -51,12 +54,12 @@ pub fn refusal(
     hash: u64,
     fillers: Fillers,
 ) -> u64
-    ensures { λ r. ⌜ r ≡ refusal (MoveOut entry hash fillers)
+    ensures { λ r. ⌜ r ≡ refusal pair (MoveOut entry hash fillers)
         (lent (ledger .entry) (titles .entry) (rules .entry)) ⌝ }
 {
-    let w = crate::before_entry(ledger, titles, rules, entry);
+    let w = crate::before_entry(pair, ledger, titles, rules, entry);
     if w != 0 {
         return w;
     }
-    state(ledger, titles, rules, entry, hash, fillers)
+    state(pair, ledger, titles, rules, entry, hash, fillers)
 }

@@ -2,6 +2,7 @@
 ghost use mathlib.Core.Path.{_≡_};
 ghost use Prim.Native.Nat.{ℕ};
 ghost use Rattle.formats.specs.declared.facts.Facts.{Facts};
+ghost use Rattle.formats.specs.declared.head.Pair.{Pair};
 ghost use Rattle.requests.specs.declared.request.Request.the-variants.{Record};
 ghost use Rattle.calls.specs.Buffers.{lent};
 ghost use Rattle.calls.specs.Refusal.{first};
@@ -12,6 +13,7 @@ use formats::facts;
 use formats::facts::ContentId;
 use formats::facts::EntryNumber;
 use formats::facts::Facts;
+use formats::head::Pair;
 use tables::card;
 use tables::heads;
 use tables::ledger;
@@ -32,7 +34,7 @@ fn arguments(content: ContentId, entry: EntryNumber, facts: Facts) -> u64
 }
 
 fn state(ledger: &[u8], titles: &[u8], rules: &[u8], content: ContentId, entry: EntryNumber) -> u64
-    ensures { λ r. ⌜ ((facts : Facts) (hash : ℕ) → r ≡ first (stateConditions (Record content entry facts hash)
+    ensures { λ r. ⌜ ((pair : Pair) (facts : Facts) (hash : ℕ) → r ≡ first (stateConditions pair (Record content entry facts hash)
         (lent (ledger .entry) (titles .entry) (rules .entry)))) ⌝ }
 {
     let kind = card::kind(titles, rules, entry);
@@ -46,6 +48,7 @@ fn state(ledger: &[u8], titles: &[u8], rules: &[u8], content: ContentId, entry: 
 }
 
 pub fn refusal(
+    pair: Pair,
     ledger: &[u8],
     titles: &[u8],
     rules: &[u8],
@@ -53,14 +56,14 @@ pub fn refusal(
     entry: EntryNumber,
     facts: Facts,
 ) -> u64
-    ensures { λ r. ⌜ ((hash : ℕ) → r ≡ refusal (Record content entry facts hash)
+    ensures { λ r. ⌜ ((hash : ℕ) → r ≡ refusal pair (Record content entry facts hash)
         (lent (ledger .entry) (titles .entry) (rules .entry))) ⌝ }
 {
     let w = arguments(content, entry, facts);
     if w != 0 {
         return w;
     }
-    let w = heads::check(ledger, titles, rules);
+    let w = heads::check(pair, ledger, titles, rules);
     if w != 0 {
         return w;
     }

@@ -8,6 +8,7 @@ use native.Mathlib.Decide.{ℕ-discrete}
 use lib.Dec.{eqb}
 use lib.ListN.{length}
 use borrow.Author.Tests.{eq-eqb, ne-eqb, eqb-true, not-false}
+use Rattle.formats.specs.declared.head.Pair.{Pair}
 use Rattle.formats.specs.Answer.{done, refused}
 use Rattle.formats.specs.Bytes.{Bytes}
 use Rattle.formats.specs.Head.{freshTitles, freshRules}
@@ -36,22 +37,22 @@ formats-ledger ledger rows application =
       stays-bytes = λ bytes. either-way Bytes d bytes (λ none. fresh-ledger-bytes rows application);
     }
 
-formats-card : (titles rules : List ℕ) (application : ℕ) → FormatsCard titles rules application
+formats-card : (pair : Pair) (titles rules : List ℕ) (application : ℕ) → FormatsCard pair titles rules application
 unfolding cardFormatting formattedTitles formattedRules
-formats-card titles rules application =
+formats-card pair titles rules application =
     let d = refused-first (cardConditions titles rules) refl refl refl (both-or-none (eqb (cardFormatting titles rules) 0)) in
     record {
       refused-first = d;
       answered = answered-by (tests-same (length titles) 16000 then tests-same (length rules) 32000 then end) refl refl;
       same-lengths =
           either-way (λ (p : List ℕ × List ℕ). (length (p .0) ≡ length titles) × (length (p .1) ≡ length rules)) d (refl, refl)
-          (λ none. (fresh-titles-length ∙ sym (long (length titles) 16000 (none .0)), fresh-rules-length application ∙ sym (long (length rules) 32000 (none .1 .0))));
+          (λ none. (fresh-titles-length pair ∙ sym (long (length titles) 16000 (none .0)), fresh-rules-length pair application ∙ sym (long (length rules) 32000 (none .1 .0))));
       stay-bytes = λ t r.
-          either-way (λ (p : List ℕ × List ℕ). Bytes (p .0) × Bytes (p .1)) d (t, r) (λ none. (fresh-titles-bytes, fresh-rules-bytes application));
+          either-way (λ (p : List ℕ × List ℕ). Bytes (p .0) × Bytes (p .1)) d (t, r) (λ none. (fresh-titles-bytes pair, fresh-rules-bytes pair application));
     }
   where
     both-or-none : (x : Bool)
-        → _≡_ {A = List ℕ × List ℕ} (cond x freshTitles titles, cond x (freshRules application) rules) (cond x (freshTitles, freshRules application) (titles, rules))
+        → _≡_ {A = List ℕ × List ℕ} (cond x (freshTitles pair) titles, cond x (freshRules pair application) rules) (cond x (freshTitles pair, freshRules pair application) (titles, rules))
     both-or-none true = refl
     both-or-none false = refl
 
@@ -63,16 +64,16 @@ values-are : (x : Bool) (n : ℕ) (values : List ℕ) → (cond x (done values) 
 values-are true n values = refl
 values-are false n values = refl
 
-tallies : (titles rules : List ℕ) (c : ℕ) → Tallies titles rules c
+tallies : (pair : Pair) (titles rules : List ℕ) (c : ℕ) → Tallies pair titles rules c
 unfolding tallied tallyRefusal
-tallies titles rules c =
-    let n = tallyRefusal titles rules c in
+tallies pair titles rules c =
+    let n = tallyRefusal pair titles rules c in
     let values = copies c titles rules ∷ [] in
     record {
       refused-first =
-          refused-first (tallyConditions titles rules c) refl refl (number-is n values)
+          refused-first (tallyConditions pair titles rules c) refl refl (number-is n values)
           (values-are (eqb n 0) n values ∙ ap (λ (m : ℕ). cond (eqb m 0) values []) (sym (number-is n values)));
-      answered = answered-by (tests-number c then tests-titles titles then tests-rule-head rules then end) refl (number-is n values);
+      answered = answered-by (tests-number c then tests-titles pair titles then tests-rule-head pair rules then end) refl (number-is n values);
     }
 
 -- DEMAND 1

@@ -4,6 +4,7 @@ use Prim.Native.Nat.{ℕ, _+_, _*_}
 use mathlib.Core.Path.{_≡_}
 use mathlib.Core.List.{List, [], _∷_}
 use lib.ListN.{length}
+use Rattle.formats.specs.declared.head.Pair.{Pair}
 use Rattle.formats.specs.Bytes.{Bytes}
 use Rattle.formats.specs.Head.{TitlesHead, RulesHead, freshLedger, freshTitles, freshRules}
 use Rattle.calls.specs.Buffers.{copies, Within}
@@ -21,21 +22,21 @@ pub record FormatsLedger (ledger : List ℕ) (rows application : ℕ) : Type 0 w
   pub stays-bytes : Bytes ledger → Bytes (formattedLedger ledger rows application)
 
 -- a card, both tables or none
-pub record FormatsCard (titles rules : List ℕ) (application : ℕ) : Type 0 where
+pub record FormatsCard (pair : Pair) (titles rules : List ℕ) (application : ℕ) : Type 0 where
   pub refused-first : RefusedFirst (List ℕ × List ℕ) (8 ∷ 9 ∷ []) (cardConditions titles rules) (cardFormatting titles rules)
-      (titles, rules) (formattedTitles titles rules, formattedRules titles rules application) (freshTitles, freshRules application)
+      (titles, rules) (formattedTitles pair titles rules, formattedRules pair titles rules application) (freshTitles pair, freshRules pair application)
   pub answered : AnsweredBy (8 needs (length titles ≡ 16000) ∷ 9 needs (length rules ≡ 32000) ∷ []) (cardFormatting titles rules)
-  pub same-lengths : (length (formattedTitles titles rules) ≡ length titles) × (length (formattedRules titles rules application) ≡ length rules)
-  pub stay-bytes : Bytes titles → Bytes rules → Bytes (formattedTitles titles rules) × Bytes (formattedRules titles rules application)
+  pub same-lengths : (length (formattedTitles pair titles rules) ≡ length titles) × (length (formattedRules pair titles rules application) ≡ length rules)
+  pub stay-bytes : Bytes titles → Bytes rules → Bytes (formattedTitles pair titles rules) × Bytes (formattedRules pair titles rules application)
 
 -- the tally: a refusal has no value
-pub record Tallies (titles rules : List ℕ) (c : ℕ) : Type 0 where
-  pub refused-first : RefusedFirst (List ℕ) (4 ∷ 8 ∷ 9 ∷ []) (tallyConditions titles rules c) (tallied titles rules c .number)
-      [] (tallied titles rules c .values) (copies c titles rules ∷ [])
-  pub answered : AnsweredBy (4 needs Within 999 c ∷ 8 needs TitlesHead titles ∷ 9 needs RulesHead rules ∷ []) (tallied titles rules c .number)
+pub record Tallies (pair : Pair) (titles rules : List ℕ) (c : ℕ) : Type 0 where
+  pub refused-first : RefusedFirst (List ℕ) (4 ∷ 8 ∷ 9 ∷ []) (tallyConditions pair titles rules c) (tallied pair titles rules c .number)
+      [] (tallied pair titles rules c .values) (copies c titles rules ∷ [])
+  pub answered : AnsweredBy (4 needs Within 999 c ∷ 8 needs TitlesHead pair titles ∷ 9 needs RulesHead pair rules ∷ []) (tallied pair titles rules c .number)
 
 -- DEMAND 1, of formatting and tally
 pub record Demand1Tables : Type 0 where
   pub ledger : (ledger : List ℕ) (rows application : ℕ) → FormatsLedger ledger rows application
-  pub card : (titles rules : List ℕ) (application : ℕ) → FormatsCard titles rules application
-  pub tally : (titles rules : List ℕ) (c : ℕ) → Tallies titles rules c
+  pub card : (pair : Pair) (titles rules : List ℕ) (application : ℕ) → FormatsCard pair titles rules application
+  pub tally : (pair : Pair) (titles rules : List ℕ) (c : ℕ) → Tallies pair titles rules c

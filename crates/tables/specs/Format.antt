@@ -4,6 +4,7 @@ use mathlib.Core.List.{List, [], _∷_}
 use mathlib.Core.Bool.{cond}
 use lib.Dec.{eqb}
 use lib.ListN.{length}
+use Rattle.formats.specs.declared.head.Pair.{Pair}
 use Rattle.formats.specs.Head.{freshLedger, freshTitles, freshRules}
 use Rattle.formats.specs.Facts.{numbered}
 use Rattle.calls.specs.Refusal.{Condition, _unless_, first}
@@ -28,8 +29,8 @@ cardFormatting titles rules = first (cardConditions titles rules)
 unfoldable pub formattedLedger : List ℕ → ℕ → ℕ → List ℕ
 formattedLedger ledger rows application = cond (eqb (ledgerFormatting ledger rows) 0) (freshLedger rows application) ledger
 
-unfoldable pub formattedTitles : List ℕ → List ℕ → List ℕ
-formattedTitles titles rules = cond (eqb (cardFormatting titles rules) 0) freshTitles titles
+unfoldable pub formattedTitles : Pair → List ℕ → List ℕ → List ℕ
+formattedTitles pair titles rules = cond (eqb (cardFormatting titles rules) 0) (freshTitles pair) titles
 
-unfoldable pub formattedRules : List ℕ → List ℕ → ℕ → List ℕ
-formattedRules titles rules application = cond (eqb (cardFormatting titles rules) 0) (freshRules application) rules
+unfoldable pub formattedRules : Pair → List ℕ → List ℕ → ℕ → List ℕ
+formattedRules pair titles rules application = cond (eqb (cardFormatting titles rules) 0) (freshRules pair application) rules

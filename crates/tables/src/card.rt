@@ -4,7 +4,7 @@ ghost use Rattle.formats.specs.Half.{idOf};
 ghost use Rattle.formats.specs.Rule.{triggerOf, rightsOf, hashOf};
 ghost use Rattle.formats.specs.Entry.{kindAnswer, kindOf, entryFacts};
 ghost use Rattle.calls.specs.Buffers.{titleAt, ruleAt, isFree, isCopy, isFull};
-ghost use Rattle.calls.specs.Conditions.{leavesKey, mayNotMove};
+ghost use Rattle.calls.specs.Conditions.{leavesKey, leavesStiKey, mayNotMove};
 use calls::count;
 use formats::entry;
 use formats::entry::EntryKind;
@@ -12,6 +12,7 @@ use formats::facts::ContentId;
 use formats::facts::EntryNumber;
 use formats::facts::Facts;
 use formats::half;
+use formats::head::Pair;
 use formats::rule;
 use formats::table;
 
@@ -117,15 +118,19 @@ fn leaves_key(filler: u64, half: &[u8]) -> bool
     filler % 0x100_0000_0000_0000 == half::key(half)
 }
 
-// Whether it would leave an entry's title key, or its STI key.
+// Whether it would leave an entry's title key.
 pub fn leaves_title_key(titles: &[u8], entry: EntryNumber, filler: u64) -> bool
     ensures { λ r. ⌜ r ≡ leavesKey filler (titleAt (now (titles .entry)) (entry .0)) ⌝ }
 {
     leaves_key(filler, title_half(titles, entry))
 }
 
-pub fn leaves_sti_key(rules: &[u8], entry: EntryNumber, filler: u64) -> bool
-    ensures { λ r. ⌜ r ≡ leavesKey filler (ruleAt (now (rules .entry)) (entry .0)) ⌝ }
+// Whether it would leave its STI key. A picture call does not ask.
+pub fn leaves_sti_key(pair: Pair, rules: &[u8], entry: EntryNumber, filler: u64) -> bool
+    ensures { λ r. ⌜ r ≡ leavesStiKey pair filler (ruleAt (now (rules .entry)) (entry .0)) ⌝ }
 {
-    leaves_key(filler, rule_half(rules, entry))
+    match pair {
+        Pair::Audio => leaves_key(filler, rule_half(rules, entry)),
+        Pair::Picture => false,
+    }
 }

@@ -8,6 +8,8 @@ ghost use Rattle.formats.specs.Head.{tableHead};
 ghost use Rattle.tables.specs.Format.{ledgerFormatting, formattedLedger, cardFormatting, formattedTitles, formattedRules};
 use formats::facts;
 use formats::field;
+use formats::head;
+use formats::head::Pair;
 use formats::refusal;
 
 fn clear(buffer: &mut [u8])
@@ -64,10 +66,10 @@ pub fn format_ledger(ledger: &mut [u8], rows: u64, application: u16) -> u64
 }
 
 // Answers 0, or 8 or 9 with nothing changed in either table.
-pub fn format_card(titles: &mut [u8], rules: &mut [u8], application: u16) -> u64
+pub fn format_card(pair: Pair, titles: &mut [u8], rules: &mut [u8], application: u16) -> u64
     ensures { λ r. ⌜ r ≡ cardFormatting (now (titles .entry)) (now (rules .entry)) ⌝ }
-    ensures { λ _. ⌜ now (titles .exit) ≡ formattedTitles (now (titles .entry)) (now (rules .entry)) ⌝ }
-    ensures { λ _. ⌜ now (rules .exit) ≡ formattedRules (now (titles .entry)) (now (rules .entry)) application ⌝ }
+    ensures { λ _. ⌜ now (titles .exit) ≡ formattedTitles pair (now (titles .entry)) (now (rules .entry)) ⌝ }
+    ensures { λ _. ⌜ now (rules .exit) ≡ formattedRules pair (now (titles .entry)) (now (rules .entry)) application ⌝ }
 {
     if titles.len() != 16000 {
         return refusal::TITLES;
@@ -75,7 +77,14 @@ pub fn format_card(titles: &mut [u8], rules: &mut [u8], application: u16) -> u64
     if rules.len() != 32000 {
         return refusal::RULES;
     }
-    fresh_table(titles, 0x4131, 0x10, 0, 16, 0x01);
-    fresh_table(rules, 0x4D31, 0x11, application as u64, 32, 0x02);
+    fresh_table(titles, head::titles_identifier(pair), 0x10, 0, 16, 0x01);
+    fresh_table(
+        rules,
+        head::rules_identifier(pair),
+        0x11,
+        application as u64,
+        32,
+        0x02,
+    );
     0
 }

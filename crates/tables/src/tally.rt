@@ -5,6 +5,7 @@ use crate::copies;
 use formats::facts;
 use formats::facts::ContentId;
 use formats::head;
+use formats::head::Pair;
 use formats::refusal;
 
 // The number of copies, or the refusal, 4, 8 or 9.
@@ -13,17 +14,17 @@ pub enum Tallied {
     Refused(u64),
 }
 
-pub fn tally(titles: &[u8], rules: &[u8], content: ContentId) -> Tallied
-    ensures { λ r. ⌜ tallyAnswer r ≡ tallied (now (titles .entry)) (now (rules .entry)) (content .0) ⌝ }
+pub fn tally(pair: Pair, titles: &[u8], rules: &[u8], content: ContentId) -> Tallied
+    ensures { λ r. ⌜ tallyAnswer r ≡ tallied pair (now (titles .entry)) (now (rules .entry)) (content .0) ⌝ }
 {
     if !facts::is_numbered(content.0) {
         return Tallied::Refused(refusal::CONTENT_ID);
     }
-    let w = head::check_titles(titles);
+    let w = head::check_titles(pair, titles);
     if w != 0 {
         return Tallied::Refused(w);
     }
-    let w = head::check_rules(rules);
+    let w = head::check_rules(pair, rules);
     if w != 0 {
         return Tallied::Refused(w);
     }

@@ -21,6 +21,7 @@ use Rattle.calls.proofs.Refusals.{refused-first}
 use Rattle.calls.proofs.InBounds.{demand-1-calls}
 use Rattle.calls.proofs.Requests.{kind-tested, writing-numbers, writing-refuses, writing-answer, writing-left, demand-1-requests}
 use Rattle.calls.proofs.Done.{work-is-done, register-by-ledger, gone-stays}
+use Rattle.calls.proofs.Pairs.{other-pair, picture-by-f1}
 use Rattle.calls.proofs.Fresh.{rows-by-number, fresh-is-ready}
 use Rattle.calls.proofs.Examples.{ten-examples}
 use Rattle.calls.proofs.SampleRun.{sample-run, every-call-done}
@@ -84,6 +85,8 @@ demands =
             rows = rows-by-number;
             register-by-ledger = register-by-ledger;
             gone-stays = gone-stays;
+            other-pair = other-pair;
+            picture-by-f1 = picture-by-f1;
             tables = demand-1-tables;
             requests = demand-1-requests;
             numbers = number-refused;

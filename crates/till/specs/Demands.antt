@@ -15,6 +15,7 @@ use Rattle.calls.specs.Refusal.{RefusedFirst}
 use Rattle.calls.specs.Perform.{Demand1Calls}
 use Rattle.calls.specs.Requests.{kindCondition, writingConditions, valuesNumbers, Demand1Requests}
 use Rattle.calls.specs.Work.{WorkIsDone, RegisterByLedger, GoneStays}
+use Rattle.calls.specs.Pairs.{OtherPair, PictureByF1}
 use Rattle.calls.specs.Fresh.{RowsByNumber, FreshIsReady}
 use Rattle.calls.specs.Examples.{TenExamples}
 use Rattle.calls.specs.SampleRun.{SampleRun, EveryCallDone}
@@ -45,6 +46,9 @@ pub record Demand1 : Type 0 where
   pub rows : RowsByNumber
   pub register-by-ledger : RegisterByLedger
   pub gone-stays : GoneStays
+  -- tables of the other pair are refused, and a picture call looks at f1 only
+  pub other-pair : OtherPair
+  pub picture-by-f1 : PictureByF1
   -- formatting and tally
   pub tables : Demand1Tables
   -- requests that are read and written, and where the bytes are no number

@@ -1,9 +1,17 @@
--- What a till gives in plain numbers, as the calls take it.
+-- What a till gives in plain values, as the calls take it.
 use Prim.Native.Nat.{ℕ}
+use mathlib.Core.Bool.{Bool, true, false}
+use Rattle.formats.specs.declared.head.Pair.{Pair}
+use Rattle.formats.specs.declared.head.Pair.the-variants.{Audio, Picture}
 use Rattle.formats.specs.declared.facts.ContentId.{ContentId}
 use Rattle.formats.specs.declared.facts.EntryNumber.{EntryNumber}
 use Rattle.formats.specs.declared.facts.Facts.{Facts}
 use Rattle.formats.specs.declared.facts.Fillers.{Fillers}
+
+-- `bool pair`: COUNTER_AUDIO is false, COUNTER_PICTURE true
+abbrev pub pairOf : Bool → Pair
+pairOf false = Audio
+pairOf true = Picture
 
 abbrev pub title : ℕ → ContentId
 title content = record { 0 = content }

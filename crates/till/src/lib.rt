@@ -8,7 +8,7 @@ ghost use Rattle.calls.specs.Buffers.{lent};
 ghost use Rattle.tables.specs.Format.{ledgerFormatting, formattedLedger, cardFormatting, formattedTitles, formattedRules};
 ghost use Rattle.tables.specs.Tally.{tallied};
 ghost use Rattle.music_counter.specs.Answer.{Answers, AnswersByLedger};
-ghost use Rattle.till.specs.Given.{title, place, facts, fillers};
+ghost use Rattle.till.specs.Given.{pairOf, title, place, facts, fillers};
 ghost use Rattle.till.specs.Tally.{copiesAfter};
 ghost use Rattle.requests.specs.Number.{writtenAnswer};
 ghost use Rattle.requests.specs.Request.{readRequest, requestAnswer};
@@ -17,6 +17,7 @@ use formats::facts::ContentId;
 use formats::facts::EntryNumber;
 use formats::facts::Facts;
 use formats::facts::Fillers;
+use formats::head::Pair;
 use music_counter::check_in;
 use music_counter::check_out;
 use music_counter::delete;
@@ -31,6 +32,13 @@ use tables::format;
 use tables::tally;
 use tables::tally::Tallied;
 
+// A till's pair: false is audio, true picture. There is no third value to refuse.
+fn pair_of(pair: bool) -> Pair
+    ensures { λ r. ⌜ r ≡ pairOf pair ⌝ }
+{
+    if pair { Pair::Picture } else { Pair::Audio }
+}
+
 // Answers 0, or 4 or 7 with nothing changed.
 #[no_mangle]
 pub extern "C" fn counter_format_ledger(ledger: &mut [u8], rows: u64, application: u16) -> u64
@@ -42,12 +50,17 @@ pub extern "C" fn counter_format_ledger(ledger: &mut [u8], rows: u64, applicatio
 
 // Answers 0, or 8 or 9 with nothing changed in either table.
 #[no_mangle]
-pub extern "C" fn counter_format_card(titles: &mut [u8], rules: &mut [u8], application: u16) -> u64
+pub extern "C" fn counter_format_card(
+    pair: bool,
+    titles: &mut [u8],
+    rules: &mut [u8],
+    application: u16,
+) -> u64
     ensures { λ r. ⌜ r ≡ cardFormatting (now (titles .entry)) (now (rules .entry)) ⌝ }
-    ensures { λ _. ⌜ now (titles .exit) ≡ formattedTitles (now (titles .entry)) (now (rules .entry)) ⌝ }
-    ensures { λ _. ⌜ now (rules .exit) ≡ formattedRules (now (titles .entry)) (now (rules .entry)) application ⌝ }
+    ensures { λ _. ⌜ now (titles .exit) ≡ formattedTitles (pairOf pair) (now (titles .entry)) (now (rules .entry)) ⌝ }
+    ensures { λ _. ⌜ now (rules .exit) ≡ formattedRules (pairOf pair) (now (titles .entry)) (now (rules .entry)) application ⌝ }
 {
-    format::format_card(titles, rules, application)
+    format::format_card(pair_of(pair), titles, rules, application)
 }
 
 // Answers 0, or 4, 6, 7 or 11 with nothing changed.
@@ -80,6 +93,7 @@ pub extern "C" fn counter_register(
 // Answers 0, or 4, 5, 6, 7, 8, 9, 10 or 11 with nothing changed.
 #[no_mangle]
 pub extern "C" fn counter_record(
+    pair: bool,
     ledger: &mut [u8],
     titles: &mut [u8],
     rules: &mut [u8],
@@ -93,7 +107,7 @@ pub extern "C" fn counter_record(
     sti_key: u64,
     hash: u64,
 ) -> u64
-    ensures { λ r. ⌜ Answers
+    ensures { λ r. ⌜ Answers (pairOf pair)
         (Record (title content) (place entry) (facts cci trigger rights permits «title_key» «sti_key») hash)
         (lent (ledger .entry) (titles .entry) (rules .entry)) r
         (lent (ledger .exit) (titles .exit) (rules .exit)) ⌝ }
@@ -107,6 +121,7 @@ pub extern "C" fn counter_record(
         sti_key,
     };
     record::record(
+        pair_of(pair),
         ledger,
         titles,
         rules,
@@ -120,17 +135,19 @@ pub extern "C" fn counter_record(
 // Answers 0, or 4, 5, 7, 8, 9, 10, 11 or 12 with nothing changed.
 #[no_mangle]
 pub extern "C" fn counter_check_out(
+    pair: bool,
     ledger: &mut [u8],
     titles: &mut [u8],
     rules: &[u8],
     content: u64,
     entry: u64,
 ) -> u64
-    ensures { λ r. ⌜ Answers (CheckOut (title content) (place entry))
+    ensures { λ r. ⌜ Answers (pairOf pair) (CheckOut (title content) (place entry))
         (lent (ledger .entry) (titles .entry) (rules .entry)) r
         (lent (ledger .exit) (titles .exit) (rules .exit)) ⌝ }
 {
     check_out::check_out(
+        pair_of(pair),
         ledger,
         titles,
         rules,
@@ -142,22 +159,24 @@ pub extern "C" fn counter_check_out(
 // Answers 0, or 5, 7, 8, 9, 10, 11, 15 or 16 with nothing changed.
 #[no_mangle]
 pub extern "C" fn counter_check_in(
+    pair: bool,
     ledger: &mut [u8],
     titles: &mut [u8],
     rules: &[u8],
     entry: u64,
     f1: u64,
 ) -> u64
-    ensures { λ r. ⌜ Answers (CheckIn (place entry) f1)
+    ensures { λ r. ⌜ Answers (pairOf pair) (CheckIn (place entry) f1)
         (lent (ledger .entry) (titles .entry) (rules .entry)) r
         (lent (ledger .exit) (titles .exit) (rules .exit)) ⌝ }
 {
-    check_in::check_in(ledger, titles, rules, EntryNumber(entry), f1)
+    check_in::check_in(pair_of(pair), ledger, titles, rules, EntryNumber(entry), f1)
 }
 
 // Answers 0, or 5, 7, 8, 9, 10, 11, 12, 13 or 16 with nothing changed.
 #[no_mangle]
 pub extern "C" fn counter_move_out(
+    pair: bool,
     ledger: &mut [u8],
     titles: &mut [u8],
     rules: &mut [u8],
@@ -168,17 +187,26 @@ pub extern "C" fn counter_move_out(
     f3: u64,
     f4: u64,
 ) -> u64
-    ensures { λ r. ⌜ Answers (MoveOut (place entry) hash (fillers f1 f2 f3 f4))
+    ensures { λ r. ⌜ Answers (pairOf pair) (MoveOut (place entry) hash (fillers f1 f2 f3 f4))
         (lent (ledger .entry) (titles .entry) (rules .entry)) r
         (lent (ledger .exit) (titles .exit) (rules .exit)) ⌝ }
 {
     let fillers = Fillers { f1, f2, f3, f4 };
-    move_out::move_out(ledger, titles, rules, EntryNumber(entry), hash, fillers)
+    move_out::move_out(
+        pair_of(pair),
+        ledger,
+        titles,
+        rules,
+        EntryNumber(entry),
+        hash,
+        fillers,
+    )
 }
 
 // Answers 0, or 4, 5, 7, 8, 9, 10, 11, 12 or 14 with nothing changed.
 #[no_mangle]
 pub extern "C" fn counter_move_in(
+    pair: bool,
     ledger: &mut [u8],
     titles: &mut [u8],
     rules: &mut [u8],
@@ -186,11 +214,12 @@ pub extern "C" fn counter_move_in(
     entry: u64,
     hash: u64,
 ) -> u64
-    ensures { λ r. ⌜ Answers (MoveIn (title content) (place entry) hash)
+    ensures { λ r. ⌜ Answers (pairOf pair) (MoveIn (title content) (place entry) hash)
         (lent (ledger .entry) (titles .entry) (rules .entry)) r
         (lent (ledger .exit) (titles .exit) (rules .exit)) ⌝ }
 {
     move_in::move_in(
+        pair_of(pair),
         ledger,
         titles,
         rules,
@@ -203,6 +232,7 @@ pub extern "C" fn counter_move_in(
 // Answers 0, or 5, 7, 8, 9, 10, 11 or 16 with nothing changed.
 #[no_mangle]
 pub extern "C" fn counter_delete(
+    pair: bool,
     ledger: &mut [u8],
     titles: &mut [u8],
     rules: &mut [u8],
@@ -212,22 +242,35 @@ pub extern "C" fn counter_delete(
     f3: u64,
     f4: u64,
 ) -> u64
-    ensures { λ r. ⌜ Answers (Delete (place entry) (fillers f1 f2 f3 f4))
+    ensures { λ r. ⌜ Answers (pairOf pair) (Delete (place entry) (fillers f1 f2 f3 f4))
         (lent (ledger .entry) (titles .entry) (rules .entry)) r
         (lent (ledger .exit) (titles .exit) (rules .exit)) ⌝ }
 {
     let fillers = Fillers { f1, f2, f3, f4 };
-    delete::delete(ledger, titles, rules, EntryNumber(entry), fillers)
+    delete::delete(
+        pair_of(pair),
+        ledger,
+        titles,
+        rules,
+        EntryNumber(entry),
+        fillers,
+    )
 }
 
 // Answers 0, or 4, 8 or 9 with `copies` as it was.
 #[no_mangle]
-pub extern "C" fn counter_tally(titles: &[u8], rules: &[u8], content: u64, copies: &mut u64) -> u64
-    ensures { λ r. ⌜ r ≡ tallied (now (titles .entry)) (now (rules .entry)) content .number ⌝ }
+pub extern "C" fn counter_tally(
+    pair: bool,
+    titles: &[u8],
+    rules: &[u8],
+    content: u64,
+    copies: &mut u64,
+) -> u64
+    ensures { λ r. ⌜ r ≡ tallied (pairOf pair) (now (titles .entry)) (now (rules .entry)) content .number ⌝ }
     ensures { λ _. ⌜ now (copies .exit)
-        ≡ copiesAfter (tallied (now (titles .entry)) (now (rules .entry)) content) (now (copies .entry)) ⌝ }
+        ≡ copiesAfter (tallied (pairOf pair) (now (titles .entry)) (now (rules .entry)) content) (now (copies .entry)) ⌝ }
 {
-    let found = tally::tally(titles, rules, ContentId(content));
+    let found = tally::tally(pair_of(pair), titles, rules, ContentId(content));
     match found {
         Tallied::Copies(n) => {
             *copies = n;

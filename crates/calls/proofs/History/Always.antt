@@ -10,6 +10,7 @@ use native.Mathlib.Omega.{arith}
 use native.Mathlib.Decide.{ℕ-discrete}
 use lib.Dec.{leb}
 use borrow.Author.Tests.{leb-true, ne-eqb}
+use Rattle.formats.specs.declared.head.Pair.{Pair}
 use Rattle.formats.specs.Head.{rowsOf}
 use Rattle.formats.specs.Row.{stateOf}
 use Rattle.formats.specs.declared.facts.Facts.{Facts}
@@ -35,9 +36,9 @@ use Rattle.calls.proofs.History.Calls.{change}
 
 -- THE START
 
-module _ (rows application cardApplication : ℕ) (low : 1 ≤ rows) (high : rows ≤ 999) where
+module _ (pair : Pair) (rows application cardApplication : ℕ) (low : 1 ≤ rows) (high : rows ≤ 999) where
   abbrev b₀ : Buffers
-  b₀ = fresh rows application cardApplication
+  b₀ = fresh pair rows application cardApplication
 
   -- every row is empty, or none
   data Blank : RowState → Type 0 where
@@ -58,7 +59,7 @@ module _ (rows application cardApplication : ℕ) (low : 1 ≤ rows) (high : row
 
   -- every place has nothing
   nothing-there : (j : ℕ) → Within 999 j → view b₀ .places j ≡ vacant
-  nothing-there j l = ap (λ (k : EntryKind). placeBy k (contentAt b₀ j) (factsAt b₀ j)) (fresh-free rows application cardApplication j l)
+  nothing-there j l = ap (λ (k : EntryKind). placeBy k (contentAt b₀ j) (factsAt b₀ j)) (fresh-free pair rows application cardApplication j l)
 
   not-granted : (c : ℕ) → NotGranted (actions c []) (copiesIn 999 c (view b₀)) (fullsIn 999 c (view b₀))
   unfolding actions times grant
@@ -93,27 +94,27 @@ pub record Sound (w : Run) : Type 0 where
   pub inv : Invariant 999 (w .log) (view (w .buffers))
   pub bytes : AreBytes (w .buffers)
 
-goes-on : (k : Request) (w : Run) → Sound w → Sound (next k w)
-goes-on k w s =
+goes-on : (pair : Pair) (k : Request) (w : Run) → Sound w → Sound (next pair k w)
+goes-on pair k w s =
     let b = w .buffers in
-    record { inv = by (ℕ-discrete (perform k b .answer) 0); bytes = in-bounds k b .stay-bytes (s .bytes) }
+    record { inv = by (ℕ-discrete (perform pair k b .answer) 0); bytes = in-bounds pair k b .stay-bytes (s .bytes) }
   where
-    by : Dec (perform k (w .buffers) .answer ≡ 0) → Invariant 999 (next k w .log) (view (perform k (w .buffers) .buffers))
+    by : Dec (perform pair k (w .buffers) .answer ≡ 0) → Invariant 999 (next pair k w .log) (view (perform pair k (w .buffers) .buffers))
     by (yes zero) =
         let b = w .buffers in
-        rw zero (kept 999 k (w .log) (view b) (view (perform k b .buffers)) (change (w .log) b (s .inv) (s .bytes) k (needs-met k b zero)) (s .inv))
+        rw zero (kept 999 k (w .log) (view b) (view (perform pair k b .buffers)) (change pair (w .log) b (s .inv) (s .bytes) k (needs-met pair k b zero)) (s .inv))
     by (no refused) =
-        let a : Answered = record { call = k; answer = perform k (w .buffers) .answer } in
-        rw (unchanged k (w .buffers) refused)
+        let a : Answered = record { call = k; answer = perform pair k (w .buffers) .answer } in
+        rw (unchanged pair k (w .buffers) refused)
         record {
           titles = λ c. rw (refused-actions c a (w .log) refused) (s .inv .titles c);
           agree = λ p l. rw (refused-last p a (w .log) refused) (s .inv .agree p l);
         }
 
-always : (ks : List Request) (w : Run) → Sound w → Sound (run ks w)
+always : (pair : Pair) (ks : List Request) (w : Run) → Sound w → Sound (run pair ks w)
 unfolding run
-always [] w s = s
-always (k ∷ ks) w s = always ks (next k w) (goes-on k w s)
+always pair [] w s = s
+always pair (k ∷ ks) w s = always pair ks (next pair k w) (goes-on pair k w s)
 
 -- WHAT IT SAYS OF A TITLE
 
@@ -161,8 +162,8 @@ module _ (c : ℕ) (f : Facts) (acts : List Action) (b : Buffers) where
 
 -- DEMAND 3
 pub history : History
-history rows application cardApplication low high ks c f e =
-    let w = run ks (start rows application cardApplication) in
-    let s = always ks (start rows application cardApplication)
-    (record { inv = begins rows application cardApplication low high; bytes = fresh-bytes rows application cardApplication }) in
+history pair rows application cardApplication low high ks c f e =
+    let w = run pair ks (start pair rows application cardApplication) in
+    let s = always pair ks (start pair rows application cardApplication)
+    (record { inv = begins pair rows application cardApplication low high; bytes = fresh-bytes pair rows application cardApplication }) in
     title-claim c f (actions c (w .log)) (w .buffers) (stateAt (w .buffers) c) refl (s .inv .titles c) e

@@ -8,6 +8,7 @@ use mathlib.Core.Option.{none, some}
 use mathlib.Core.Bool.{Bool, true, false, cond}
 use native.Mathlib.Omega.{arith}
 use borrow.Author.Tests.{ne-eqb}
+use Rattle.formats.specs.declared.head.Pair.{Pair}
 use Rattle.formats.specs.Head.{LedgerHead}
 use Rattle.formats.specs.declared.facts.Facts.{Facts}
 use Rattle.requests.specs.declared.request.Request.{Request}
@@ -51,17 +52,17 @@ other-deleted false ne = λ e. let z : _≡_ {A = ℕ} 0 1 = cc in omega arith
 place-is : (b : Buffers) (j : ℕ) {k : EntryKind} → kindAt b j ≡ k → view b .places j ≡ placeBy k (contentAt b j) (factsAt b j)
 place-is b j e = ap (λ (k : EntryKind). placeBy k (contentAt b j) (factsAt b j)) e
 
-module _ (log : Log) (b : Buffers) (inv : Invariant 999 log (view b)) (are-bytes : AreBytes b) where
+module _ (pair : Pair) (log : Log) (b : Buffers) (inv : Invariant 999 log (view b)) (are-bytes : AreBytes b) where
   -- what a call leaves, and the rows and places that it does not write
   module _ (k : Request) where
     abbrev after : Buffers
-    after = perform k b .buffers
+    after = perform pair k b .buffers
 
-    left : Named k b → Left k b after
-    left n = work-is-done k b .leaves are-bytes (unnamed k b n)
+    left : Named pair k b → Left pair k b after
+    left n = work-is-done pair k b .leaves are-bytes (unnamed pair k b n)
 
     rows-else : LedgerHead (b .ledger) → (c : ℕ) → ((d : ℕ) → d ≢ c → rowWritten k b ≢ some d) → (d : ℕ) → d ≢ c → stateAt after d ≡ stateAt b d
-    rows-else head c other d ne = row-else (untouched k b .rows) head d (other d ne)
+    rows-else head c other d ne = row-else (untouched pair k b .rows) head d (other d ne)
 
     -- from there to a change
     wrote : {c j : ℕ} {r : RowState} {q : Place} (a : Action) → OnCard b j → stateAt after c ≡ r → view after .places j ≡ q
@@ -80,7 +81,7 @@ module _ (log : Log) (b : Buffers) (inv : Invariant 999 log (view b)) (are-bytes
           step = step-at t refl refl row place;
           rows-else = rows-else (o .head) c other;
           places-else = λ i l ne.
-              place-else b after (untouched k b .titles) (untouched k b .rules) (o .titles-long) (o .rules-long) i l (others i ne) (rule-with-title k b i (others i ne));
+              place-else b after (untouched pair k b .titles) (untouched pair k b .rules) (o .titles-long) (o .rules-long) i l (others i ne) (rule-with-title k b i (others i ne));
           touched = inl (o .entry);
           agree-here = λ m. rw place here;
           agree-else = elsewhere;
@@ -94,7 +95,7 @@ module _ (log : Log) (b : Buffers) (inv : Invariant 999 log (view b)) (are-bytes
   placed-full j in-table e = subst (λ k. Agree (placeBy k (contentAt b j) (factsAt b j)) (lastAt j log)) e (inv .agree j in-table)
 
   -- EACH DONE CALL IS A CHANGE
-  pub change : (k : Request) → Named k b → Change 999 k log (view b) (view (perform k b .buffers))
+  pub change : (k : Request) → Named pair k b → Change 999 k log (view b) (view (perform pair k b .buffers))
   change (Register c f) n =
       let k = Register c f in
       let l = left k n in
@@ -114,33 +115,33 @@ module _ (log : Log) (b : Buffers) (inv : Invariant 999 log (view b)) (are-bytes
   change (Record c j f h) n =
       let k = Record c j f h in
       let l = left k n in
-      wrote k (granted f) (on-card k b n) (l .row .reads) (place-is (after k) (j .0) (l .entry .full) ∙ rw (l .entry .id, l .entry .facts))
+      wrote k (granted f) (on-card pair k b n) (l .row .reads) (place-is (after k) (j .0) (l .entry .full) ∙ rw (l .entry .id, l .entry .facts))
       (λ d ne. other-than ne) refl refl (step-at step-record (n .empty) (place-is b (j .0) (n .free)) refl refl)
       (simp (eqb-self (j .0))) (λ i ne. simp (ne-eqb i (j .0) ne))
   change (CheckOut c j) n =
       let k = CheckOut c j in
       let l = left k n in
-      wrote k checkedOut (on-card k b n) (l .row .here ∙ ap Here (same-permits (l .row .facts))) (place-is (after k) (j .0) (l .copy) ∙ rw (l .id))
+      wrote k checkedOut (on-card pair k b n) (l .row .here ∙ ap Here (same-permits (l .row .facts))) (place-is (after k) (j .0) (l .copy) ∙ rw (l .id))
       (λ d ne. other-than ne) refl refl (step-at (step-check-out (n .permit-left)) (n .here) (place-is b (j .0) (n .free)) refl refl)
       (simp (eqb-self (j .0))) (λ i ne. simp (ne-eqb i (j .0) ne))
   change (CheckIn j f1) n =
       let k = CheckIn j f1 in
       let l = left k n in
-      wrote k checkedIn (on-card k b n) (l .row .here ∙ ap Here (same-permits (l .row .facts))) (place-is (after k) (j .0) (l .free))
+      wrote k checkedIn (on-card pair k b n) (l .row .here ∙ ap Here (same-permits (l .row .facts))) (place-is (after k) (j .0) (l .free))
       (λ d ne. other-than ne) refl (rw (placed-copy (j .0) (n .entry) (n .copy))) (step-at step-check-in (n .here) (place-is b (j .0) (n .copy)) refl refl)
       tt (λ i ne. refl)
   change (MoveOut j h f) n =
       let k = MoveOut j h f in
       let l = left k n in
       let here = place-is b (j .0) (n .full) in
-      wrote k moved (on-card k b n) (l .row .reads ∙ ap Here (same-moved (l .facts))) (place-is (after k) (j .0) (l .free))
+      wrote k moved (on-card pair k b n) (l .row .reads ∙ ap Here (same-moved (l .facts))) (place-is (after k) (j .0) (l .free))
       (λ d ne. other-than ne) refl (rw (placed-full (j .0) (n .entry) (n .full)))
       (step-at (step-move-out (j .0, n .entry, here) (n .may-move .right-left)) (n .away) here refl refl)
       tt (λ i ne. refl)
   change (MoveIn c j h) n =
       let k = MoveIn c j h in
       let l = left k n in
-      wrote k moved (on-card k b n) (l .row .reads) (place-is (after k) (j .0) (l .entry .full) ∙ rw (l .entry .id, same-moved (l .facts)))
+      wrote k moved (on-card pair k b n) (l .row .reads) (place-is (after k) (j .0) (l .entry .full) ∙ rw (l .entry .id, same-moved (l .facts)))
       (λ d ne. other-than ne) refl refl
       (step-at (step-move-in (sym (copies-seen (c .0) b) ∙ none-counts (c .0) b (n .no-copy)) (n .may-move .right-left)) (n .here) (place-is b (j .0) (n .free)) refl refl)
       (simp (eqb-self (j .0))) (λ i ne. simp (ne-eqb i (j .0) ne))
@@ -151,10 +152,10 @@ module _ (log : Log) (b : Buffers) (inv : Invariant 999 log (view b)) (are-bytes
       elim (n .deletable) [
         | a-copy copy ↦
             let it = l .of-copy copy in
-            wrote k copyDeleted (on-card k b n) (rw (it .ledger)) (place-is (after k) (j .0) (it .free)) other refl (rw (placed-copy (j .0) (n .entry) copy))
+            wrote k copyDeleted (on-card pair k b n) (rw (it .ledger)) (place-is (after k) (j .0) (it .free)) other refl (rw (placed-copy (j .0) (n .entry) copy))
             (step-at step-delete-copy refl (place-is b (j .0) copy) refl refl) tt (λ i ne. refl)
         | a-holder full away key ↦
             let it = l .of-full full in
-            wrote k holderDeleted (on-card k b n) (it .row .reads) (place-is (after k) (j .0) (it .free)) other refl (rw (placed-full (j .0) (n .entry) full))
+            wrote k holderDeleted (on-card pair k b n) (it .row .reads) (place-is (after k) (j .0) (it .free)) other refl (rw (placed-full (j .0) (n .entry) full))
             (step-at step-delete-holder away (place-is b (j .0) full) refl refl) tt (λ i ne. refl)
       ]

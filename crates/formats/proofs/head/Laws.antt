@@ -12,7 +12,9 @@ use lib.Dec.{lit<}
 use borrow.Author.Tests.{le-leb, leb-true, eq-eqb, eqb-true}
 use Rattle.formats.specs.Part.{part}
 use Rattle.formats.specs.Field.{number, bytesOf}
-use Rattle.formats.specs.Head.{LedgerHead, TableHead, TitlesHead, RulesHead, ledgerApplication, rowsOf, ledgerPasses, tablePasses, titlesPass, rulesPass, rulesApplication, ledgerAnswer, titlesAnswer, rulesAnswer, rulesAnswerFor, freshLedger, tableHead, freshTitles, freshRules}
+use Rattle.formats.specs.declared.head.Pair.{Pair}
+use Rattle.formats.specs.declared.head.Pair.the-variants.{Audio, Picture}
+use Rattle.formats.specs.Head.{titlesIdentifier, rulesIdentifier, LedgerHead, TableHead, TitlesHead, RulesHead, ledgerApplication, rowsOf, ledgerPasses, tablePasses, titlesPass, rulesPass, rulesApplication, ledgerAnswer, titlesAnswer, rulesAnswer, rulesAnswerFor, freshLedger, tableHead, freshTitles, freshRules}
 use Rattle.formats.proofs.Part.{part-length, getD-part, part-inside}
 use Rattle.formats.specs.Bytes.{Bytes}
 use Rattle.formats.proofs.Bytes.{Listed, none, more, bytes, then, zeros, field}
@@ -52,8 +54,19 @@ table-passes h =
     both (eq-eqb _ _ (h .long))
     (both (eq-eqb _ _ (h .names)) (both (eq-eqb _ _ (h .sized)) (both (eq-eqb _ _ (h .count)) (both (eq-eqb _ _ (h .wide)) (eq-eqb _ _ (h .marked))))))
 
+-- an identifier has two bytes
+titles-two-bytes : (pair : Pair) → titlesIdentifier pair < 2 ^ 16
+unfolding titlesIdentifier
+titles-two-bytes Audio = lit< tt
+titles-two-bytes Picture = lit< tt
+
+rules-two-bytes : (pair : Pair) → rulesIdentifier pair < 2 ^ 16
+unfolding rulesIdentifier
+rules-two-bytes Audio = lit< tt
+rules-two-bytes Picture = lit< tt
+
 -- a title table that passes has a right head
-pub titles-head : {t : List ℕ} → titlesPass t ≡ true → TitlesHead t
+pub titles-head : {pair : Pair} {t : List ℕ} → titlesPass pair t ≡ true → TitlesHead pair t
 unfolding titlesPass
 titles-head e =
     let (p, q) = split _ _ e in
@@ -61,49 +74,50 @@ titles-head e =
     record { table = table-head p; version = ⊎-map (eqb-true _ _) (eqb-true _ _) (either _ _ v); zero = eqb-true _ _ z }
 
 -- and a title table with a right head passes
-pub titles-pass : {t : List ℕ} → TitlesHead t → titlesPass t ≡ true
+pub titles-pass : {pair : Pair} {t : List ℕ} → TitlesHead pair t → titlesPass pair t ≡ true
 unfolding titlesPass
 titles-pass h = both (table-passes (h .table)) (both (one-holds (⊎-map (eq-eqb _ _) (eq-eqb _ _) (h .version))) (eq-eqb _ _ (h .zero)))
 
 -- a rule table that passes has a right head
-pub rules-head : {r : List ℕ} → rulesPass r ≡ true → RulesHead r
+pub rules-head : {pair : Pair} {r : List ℕ} → rulesPass pair r ≡ true → RulesHead pair r
 unfolding rulesPass
 rules-head e =
     let (p, v) = split _ _ e in
     record { table = table-head p; version = leb-true _ _ v }
 
 -- and a rule table with a right head passes
-pub rules-pass : {r : List ℕ} → RulesHead r → rulesPass r ≡ true
+pub rules-pass : {pair : Pair} {r : List ℕ} → RulesHead pair r → rulesPass pair r ≡ true
 unfolding rulesPass
 rules-pass h = both (table-passes (h .table)) (le-leb _ _ (h .version))
+
+-- the identifiers of the pairs differ, so that no table is of both
+pub titles-of-one : (t : List ℕ) → TitlesHead Audio t → TitlesHead Picture t → ⊥
+unfolding titlesIdentifier
+titles-of-one t audio picture = omega (arith, audio .table .names, picture .table .names)
+
+pub rules-of-one : (r : List ℕ) → RulesHead Audio r → RulesHead Picture r → ⊥
+unfolding rulesIdentifier
+rules-of-one r audio picture = omega (arith, audio .table .names, picture .table .names)
 
 -- a ledger is refused where its head is not right
 pub ledger-refused : {l : List ℕ} → (LedgerHead l → ⊥) → 7 ≡ ledgerAnswer l
 ledger-refused h = refuses (λ e. h (ledger-head _ e))
 
 -- so is a title table
-pub titles-refused : {t : List ℕ} → (TitlesHead t → ⊥) → 8 ≡ titlesAnswer t
+pub titles-refused : {pair : Pair} {t : List ℕ} → (TitlesHead pair t → ⊥) → 8 ≡ titlesAnswer pair t
 titles-refused h = refuses (λ e. h (titles-head e))
 
 -- so is a rule table
-pub rules-refused : {r : List ℕ} → (RulesHead r → ⊥) → 9 ≡ rulesAnswer r
+pub rules-refused : {pair : Pair} {r : List ℕ} → (RulesHead pair r → ⊥) → 9 ≡ rulesAnswer pair r
 rules-refused h = refuses (λ e. h (rules-head e))
 
 -- and a rule table with another application number
-pub rules-refused-for : {application : ℕ} {r : List ℕ} → (RulesHead r → rulesApplication r ≡ application → ⊥) → 9 ≡ rulesAnswerFor application r
+pub rules-refused-for : {pair : Pair} {application : ℕ} {r : List ℕ} → (RulesHead pair r → rulesApplication r ≡ application → ⊥) → 9 ≡ rulesAnswerFor pair application r
 rules-refused-for h =
     refuses
     (λ e.
     let (p, q) = split _ _ e in
     h (rules-head p) (eqb-true _ _ q))
-
--- a title table that passes has 1,000 entries of 16 bytes, the head included
-pub titles-length : (t : List ℕ) → titlesPass t ≡ true → length t ≡ 16000
-titles-length t e = titles-head e .table .long
-
--- a rule table that passes has 1,000 entries of 32 bytes, the head included
-pub rules-length : (r : List ℕ) → rulesPass r ≡ true → length r ≡ 32000
-rules-length r e = rules-head e .table .long
 
 -- tables of one length whose first bytes are the same have the same head
 module _ (width : ℕ) (old new : List ℕ) (long : length new ≡ length old) (head : part new 0 width ≡ part old 0 width) where
@@ -132,14 +146,14 @@ module _ (width : ℕ) (old new : List ℕ) (long : length new ≡ length old) (
       simp (long, field-kept 0 2 (omega arith), field-kept 4 4 (omega arith), field-kept 10 2 (omega arith), byte-kept 12 (omega arith), byte-kept 13 (omega arith))
 
   -- whether a title table passes
-  pub titles-kept : 16 ≤ width → titlesPass new ≡ titlesPass old
+  pub titles-kept : (pair : Pair) → 16 ≤ width → titlesPass pair new ≡ titlesPass pair old
   unfolding titlesPass
-  titles-kept h = simp (table-kept h, byte-kept 3 (omega arith), field-kept 8 2 (omega arith))
+  titles-kept pair h = simp (table-kept h, byte-kept 3 (omega arith), field-kept 8 2 (omega arith))
 
   -- whether a rule table passes, and its application number
-  pub rules-kept : 32 ≤ width → rulesPass new ≡ rulesPass old
+  pub rules-kept : (pair : Pair) → 32 ≤ width → rulesPass pair new ≡ rulesPass pair old
   unfolding rulesPass
-  rules-kept h = let k : 16 ≤ width = omega arith in simp (table-kept k, byte-kept 3 (omega arith))
+  rules-kept pair h = let k : 16 ≤ width = omega arith in simp (table-kept k, byte-kept 3 (omega arith))
 
   pub rules-application-kept : 32 ≤ width → rulesApplication new ≡ rulesApplication old
   rules-application-kept h = field-kept 8 2 (omega arith)
@@ -223,42 +237,44 @@ fresh-table identifier version size application width mark n h k e =
       zeros = λ a m low high. zeros-part (tableHead identifier version size application width mark) n a m low (omega arith);
     }
 
-titles-fresh : FreshTable 0x4131 0x10 16000 0 16 0x01 freshTitles
-unfolding freshTitles
-titles-fresh = fresh-table 0x4131 0x10 16000 0 16 0x01 15986 (lit< tt) (lit< tt) refl
-
--- the length of the fresh title table
-pub fresh-titles-length : length freshTitles ≡ 16000
-fresh-titles-length = titles-fresh .head .long
-
--- it passes
-pub fresh-titles-pass : titlesPass freshTitles ≡ true
-fresh-titles-pass = titles-pass (record { table = titles-fresh .head; version = inr (titles-fresh .dated); zero = titles-fresh .numbered (lit< tt) })
-
--- its entries are zeros
-pub fresh-title : (j : ℕ) → 1 ≤ j → j ≤ 999 → part freshTitles (16 * j) 16 ≡ replicate 16 0
-fresh-title j low high = titles-fresh .zeros (16 * j) 16 (omega arith) (omega arith)
-
--- the fresh rule table
-module _ (application : ℕ) where
-  rules-fresh : FreshTable 0x4D31 0x11 32000 application 32 0x02 (freshRules application)
-  unfolding freshRules
-  rules-fresh = fresh-table 0x4D31 0x11 32000 application 32 0x02 31986 (lit< tt) (lit< tt) refl
+-- the fresh title table
+module _ (pair : Pair) where
+  titles-fresh : FreshTable (titlesIdentifier pair) 0x10 16000 0 16 0x01 (freshTitles pair)
+  unfolding freshTitles
+  titles-fresh = fresh-table (titlesIdentifier pair) 0x10 16000 0 16 0x01 15986 (titles-two-bytes pair) (lit< tt) refl
 
   -- its length
-  pub fresh-rules-length : length (freshRules application) ≡ 32000
+  pub fresh-titles-length : length (freshTitles pair) ≡ 16000
+  fresh-titles-length = titles-fresh .head .long
+
+  -- it passes
+  pub fresh-titles-pass : titlesPass pair (freshTitles pair) ≡ true
+  fresh-titles-pass = titles-pass (record { table = titles-fresh .head; version = inr (titles-fresh .dated); zero = titles-fresh .numbered (lit< tt) })
+
+  -- its entries are zeros
+  pub fresh-title : (j : ℕ) → 1 ≤ j → j ≤ 999 → part (freshTitles pair) (16 * j) 16 ≡ replicate 16 0
+  fresh-title j low high = titles-fresh .zeros (16 * j) 16 (omega arith) (omega arith)
+
+-- the fresh rule table
+module _ (pair : Pair) (application : ℕ) where
+  rules-fresh : FreshTable (rulesIdentifier pair) 0x11 32000 application 32 0x02 (freshRules pair application)
+  unfolding freshRules
+  rules-fresh = fresh-table (rulesIdentifier pair) 0x11 32000 application 32 0x02 31986 (rules-two-bytes pair) (lit< tt) refl
+
+  -- its length
+  pub fresh-rules-length : length (freshRules pair application) ≡ 32000
   fresh-rules-length = rules-fresh .head .long
 
   -- its application number
-  pub fresh-rules-application : application < 2 ^ 16 → rulesApplication (freshRules application) ≡ application
+  pub fresh-rules-application : application < 2 ^ 16 → rulesApplication (freshRules pair application) ≡ application
   fresh-rules-application = rules-fresh .numbered
 
   -- it passes
-  pub fresh-rules-pass : rulesPass (freshRules application) ≡ true
+  pub fresh-rules-pass : rulesPass pair (freshRules pair application) ≡ true
   fresh-rules-pass = rules-pass (record { table = rules-fresh .head; version = omega (arith, rules-fresh .dated) })
 
   -- its entries are zeros
-  pub fresh-rule : (j : ℕ) → 1 ≤ j → j ≤ 999 → part (freshRules application) (32 * j) 32 ≡ replicate 32 0
+  pub fresh-rule : (j : ℕ) → 1 ≤ j → j ≤ 999 → part (freshRules pair application) (32 * j) 32 ≡ replicate 32 0
   fresh-rule j low high = rules-fresh .zeros (32 * j) 32 (omega arith) (omega arith)
 
 -- fresh tables hold bytes
@@ -271,10 +287,10 @@ unfolding tableHead
 head-bytes identifier version size application width mark v w m =
     then (field 2 identifier) (more 0 (omega arith) (more version v (then (field 4 size) (then (field 2 application) (then (field 2 999) (more width w (more mark m none)))))))
 
-pub fresh-titles-bytes : Bytes freshTitles
+pub fresh-titles-bytes : (pair : Pair) → Bytes (freshTitles pair)
 unfolding freshTitles
-fresh-titles-bytes = bytes (then (head-bytes 0x4131 0x10 16000 0 16 0x01 (lit< tt) (lit< tt) (lit< tt)) (zeros 15986))
+fresh-titles-bytes pair = bytes (then (head-bytes (titlesIdentifier pair) 0x10 16000 0 16 0x01 (lit< tt) (lit< tt) (lit< tt)) (zeros 15986))
 
-pub fresh-rules-bytes : (application : ℕ) → Bytes (freshRules application)
+pub fresh-rules-bytes : (pair : Pair) (application : ℕ) → Bytes (freshRules pair application)
 unfolding freshRules
-fresh-rules-bytes application = bytes (then (head-bytes 0x4D31 0x11 32000 application 32 0x02 (lit< tt) (lit< tt) (lit< tt)) (zeros 31986))
+fresh-rules-bytes pair application = bytes (then (head-bytes (rulesIdentifier pair) 0x11 32000 application 32 0x02 (lit< tt) (lit< tt) (lit< tt)) (zeros 31986))

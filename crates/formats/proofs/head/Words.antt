@@ -7,7 +7,8 @@ use mathlib.Core.Logic.{_⊎_, inl, inr, ⊎-elim}
 use native.Mathlib.Omega.{arith}
 use lib.Bits.{bitAnd, and-block, and-mask}
 use lib.ListN.{length, getD}
-use Rattle.formats.specs.Head.{TitlesHead, RulesHead}
+use Rattle.formats.specs.declared.head.Pair.{Pair}
+use Rattle.formats.specs.Head.{titlesIdentifier, rulesIdentifier, TitlesHead, RulesHead}
 use Rattle.formats.specs.Part.{part}
 use Rattle.formats.specs.Field.{number}
 use Rattle.formats.specs.Bytes.{Bytes}
@@ -106,23 +107,25 @@ module _ (t : List ℕ) (byte : Bytes t) (size : 16 ≤ length t) where
     v-inner : bitAnd (v / 2 ^ 16) 0xffffffff ≡ number (part t 10 2) * 2 ^ 16 + getD t 12 0 * 256 + getD t 13 0
     v-inner = ap (λ (x : ℕ). bitAnd (x / 2 ^ 16) 0xffffffff) v-is ∙ inner
 
-    pub titles-front : TitlesHead t → (bitAnd w 0xffff00ffffffffff ≡ 0x4131001000003e80) ⊎ (bitAnd w 0xffff00ffffffffff ≡ 0x4131000900003e80)
-    titles-front h =
+    pub titles-front : {pair : Pair} {right : ℕ} → right ≡ titlesIdentifier pair * 2 ^ 48 + 0x1000003e80 → TitlesHead pair t
+        → (bitAnd w 0xffff00ffffffffff ≡ right) ⊎ (bitAnd w 0xffff00ffffffffff ≡ right - 0x700000000)
+    titles-front is h =
         ⊎-elim
-        (λ e. inr (w-front ∙ omega (arith, h .table .names, h .table .sized, e)))
-        (λ e. inl (w-front ∙ omega (arith, h .table .names, h .table .sized, e)))
+        (λ e. inr (w-front ∙ omega (arith, is, h .table .names, h .table .sized, e)))
+        (λ e. inl (w-front ∙ omega (arith, is, h .table .names, h .table .sized, e)))
         (h .version)
 
-    pub titles-back : TitlesHead t → v / 2 ^ 16 ≡ 0x03e71001
+    pub titles-back : {pair : Pair} → TitlesHead pair t → v / 2 ^ 16 ≡ 0x03e71001
     titles-back h = v-back ∙ omega (arith, h .zero, h .table .count, h .table .wide, h .table .marked)
 
-    pub titles-right : length t ≡ 16000 → (bitAnd w 0xffff00ffffffffff ≡ 0x4131001000003e80) ⊎ (bitAnd w 0xffff00ffffffffff ≡ 0x4131000900003e80)
-        → v / 2 ^ 16 ≡ 0x03e71001 → TitlesHead t
-    titles-right long f b =
-        let parts : (number (part t 0 2) ≡ 0x4131) × ((number (part t 4 4) ≡ 16000) × ((getD t 3 0 ≡ 0x09) ⊎ (getD t 3 0 ≡ 0x10))) =
+    pub titles-right : {pair : Pair} {right : ℕ} → right ≡ titlesIdentifier pair * 2 ^ 48 + 0x1000003e80 → length t ≡ 16000
+        → (bitAnd w 0xffff00ffffffffff ≡ right) ⊎ (bitAnd w 0xffff00ffffffffff ≡ right - 0x700000000)
+        → v / 2 ^ 16 ≡ 0x03e71001 → TitlesHead pair t
+    titles-right {pair} is long f b =
+        let parts : (number (part t 0 2) ≡ titlesIdentifier pair) × ((number (part t 4 4) ≡ 16000) × ((getD t 3 0 ≡ 0x09) ⊎ (getD t 3 0 ≡ 0x10))) =
         ⊎-elim
-        (λ e. (omega (arith, w-front, e, byte 3, low-size), (omega (arith, w-front, e, byte 3, low-size), inr (omega (arith, w-front, e, byte 3, low-size)))))
-        (λ e. (omega (arith, w-front, e, byte 3, low-size), (omega (arith, w-front, e, byte 3, low-size), inl (omega (arith, w-front, e, byte 3, low-size)))))
+        (λ e. (omega (arith, is, w-front, e, byte 3, low-size), (omega (arith, is, w-front, e, byte 3, low-size), inr (omega (arith, is, w-front, e, byte 3, low-size)))))
+        (λ e. (omega (arith, is, w-front, e, byte 3, low-size), (omega (arith, is, w-front, e, byte 3, low-size), inl (omega (arith, is, w-front, e, byte 3, low-size)))))
         f in
         record {
           table = record {
@@ -138,20 +141,20 @@ module _ (t : List ℕ) (byte : Bytes t) (size : 16 ≤ length t) where
         }
 
     -- and the rule table
-    pub rules-outer : RulesHead t → bitAnd w 0xffff0000ffffffff ≡ 0x4d31000000007d00
-    rules-outer h = w-outer ∙ omega (arith, h .table .names, h .table .sized)
+    pub rules-outer : {pair : Pair} {right : ℕ} → right ≡ rulesIdentifier pair * 2 ^ 48 + 0x7d00 → RulesHead pair t → bitAnd w 0xffff0000ffffffff ≡ right
+    rules-outer is h = w-outer ∙ omega (arith, is, h .table .names, h .table .sized)
 
-    pub rules-inner : RulesHead t → bitAnd (v / 2 ^ 16) 0xffffffff ≡ 0x03e72002
+    pub rules-inner : {pair : Pair} → RulesHead pair t → bitAnd (v / 2 ^ 16) 0xffffffff ≡ 0x03e72002
     rules-inner h = v-inner ∙ omega (arith, h .table .count, h .table .wide, h .table .marked)
 
-    pub rules-right : length t ≡ 32000 → bitAnd w 0xffff0000ffffffff ≡ 0x4d31000000007d00 → 0x11 ≤ getD t 3 0 → bitAnd (v / 2 ^ 16) 0xffffffff ≡ 0x03e72002
-        → RulesHead t
-    rules-right long f version b =
+    pub rules-right : {pair : Pair} {right : ℕ} → right ≡ rulesIdentifier pair * 2 ^ 48 + 0x7d00 → length t ≡ 32000 → bitAnd w 0xffff0000ffffffff ≡ right → 0x11 ≤ getD t 3 0 → bitAnd (v / 2 ^ 16) 0xffffffff ≡ 0x03e72002
+        → RulesHead pair t
+    rules-right is long f version b =
         record {
           table = record {
             long = long;
-            names = omega (arith, w-outer, f, low-size);
-            sized = omega (arith, w-outer, f, low-size);
+            names = omega (arith, is, w-outer, f, low-size);
+            sized = omega (arith, is, w-outer, f, low-size);
             count = omega (arith, v-inner, b, byte 12, byte 13, low-count);
             wide = omega (arith, v-inner, b, byte 12, byte 13, low-count);
             marked = omega (arith, v-inner, b, byte 12, byte 13, low-count);

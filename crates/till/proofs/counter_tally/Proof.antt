@@ -6,12 +6,16 @@ use Rattle.till.proofs.counter_tally.Statement.{statement}
 use Rattle.till.proofs.counter_tally.Tie as tie
 
 returns : tie.Need-returns
-returns c = by-case _ (c .before .found .given .1) (c .before .before .before .tally .ensures)
+returns c =
+    let at-tally = c .before .before .before in
+    by-case _ (c .before .found .given .1) (rw (at-tally .before .pair-of .ensures) at (at-tally .tally .ensures))
 
 returns-2 : tie.Need-returns-2
-returns-2 c = by-case _ (c .before .found2 .given .1) (c .before .before .before .tally .ensures)
+returns-2 c =
+    let at-tally = c .before .before .before in
+    by-case _ (c .before .found2 .given .1) (rw (at-tally .before .pair-of .ensures) at (at-tally .tally .ensures))
 
 pub counter-tally-spec : {M : Type 1} → statement M
 counter-tally-spec =
     tie.close
-    (tie.spec (λ c κs. search needs) (λ c. search needs) (λ c. search needs) returns returns-2)
+    (tie.spec (λ c κs. search needs) (λ c κs. search needs) (λ c. search needs) (λ c. search needs) returns returns-2)

@@ -14,7 +14,7 @@ use Rattle.formats.proofs.head.check_rules_for.Statement.{statement}
 use Rattle.formats.proofs.head.check_rules_for.Tie as tie
 
 -- no refusal: the head is right
-answered : (c : tie.Else1) → rulesPass (now (c .before .before .before .args .rules)) ≡ true
+answered : (c : tie.Else1) → rulesPass (c .before .before .before .args .pair) (now (c .before .before .before .args .rules)) ≡ true
 answered c = passed _ 9 (lit< tt) (omega arith)
 
 returns : tie.Need-returns

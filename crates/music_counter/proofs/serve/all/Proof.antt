@@ -9,14 +9,14 @@ use Rattle.music_counter.proofs.serve.all.Statement.{statement}
 use Rattle.music_counter.proofs.serve.all.Tie as tie
 
 abbrev Inv-loop : tie.InvT-loop
-Inv-loop ledger₀ titles₀ rules₀ s kinds₀ answers₀ rest₀ count₀ ledger titles rules kinds answers rest count =
-    Serving s (buffersOf ledger₀ titles₀ rules₀) kinds₀ answers₀ rest (buffersOf ledger titles rules) kinds answers count
+Inv-loop pair ledger₀ titles₀ rules₀ s kinds₀ answers₀ rest₀ count₀ ledger titles rules kinds answers rest count =
+    Serving pair s (buffersOf ledger₀ titles₀ rules₀) kinds₀ answers₀ rest (buffersOf ledger titles rules) kinds answers count
 
 abbrev μ-loop : tie.MeasureT-loop
-μ-loop ledger₀ titles₀ rules₀ s kinds₀ answers₀ rest₀ count₀ ledger titles rules kinds answers rest count = length rest
+μ-loop pair ledger₀ titles₀ rules₀ s kinds₀ answers₀ rest₀ count₀ ledger titles rules kinds answers rest count = length rest
 
 loop-holds : tie.Need-loop-holds Inv-loop μ-loop
-loop-holds c = start _ _ _ _
+loop-holds c = start _ _ _ _ _
 
 -- the bytes of the loop are those of the buffers that were lent, and no longer or shorter
 same-length : tie.Need-same-length Inv-loop μ-loop

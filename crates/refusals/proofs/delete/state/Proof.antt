@@ -24,7 +24,7 @@ abbrev number : tie.After-is-full → ℕ
 number k = k .before .before .before .before .before .args .entry .0
 
 abbrev tests : tie.After-is-full → List Condition
-tests k = let a = k .before .before .before .before .before .args in stateConditions (Delete (a .entry) (a .fillers)) (found k)
+tests k = let a = k .before .before .before .before .before .args in stateConditions (a .pair) (Delete (a .entry) (a .fillers)) (found k)
 
 -- past a test that passed, the answer is that of the conditions after it
 

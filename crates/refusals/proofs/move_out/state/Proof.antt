@@ -19,7 +19,7 @@ use Rattle.refusals.proofs.move_out.state.Tie as tie
 abbrev tests : tie.Else1 → List Condition
 tests k =
     let a = k .before .before .before .before .before .before .args in
-    stateConditions (MoveOut (a .entry) (a .hash) (a .fillers)) (lent (a .ledger) (a .titles) (a .rules))
+    stateConditions (a .pair) (MoveOut (a .entry) (a .hash) (a .fillers)) (lent (a .ledger) (a .titles) (a .rules))
 
 -- past a test that passed, the answer is that of the conditions after it
 is-full : (k : tie.Else1) {n : ℕ} → n ≡ first (drop 1 (tests k)) → n ≡ first (tests k)

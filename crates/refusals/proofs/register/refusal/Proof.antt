@@ -17,25 +17,25 @@ ledger-head : {w : ℕ} (l : List ℕ) → w ≡ ledgerAnswer l → w ≡ first 
 ledger-head l = answers-last 7 (ledgerPasses l)
 
 returns : tie.Need-returns
-returns c titles rules = by-arguments _ _ (c .before .arguments .ensures) (c .if1 .taken)
+returns c pair titles rules = by-arguments _ _ _ (c .before .arguments .ensures) (c .if1 .taken)
 
 returns-2 : tie.Need-returns-2
-returns-2 c titles rules =
+returns-2 c pair titles rules =
     let passed = c .before .before in
-    by-heads _ _ (passed .before .arguments .ensures) (passed .if1 .left) (ledger-head _ (c .before .check-ledger .ensures)) (c .if2 .taken)
+    by-heads _ _ _ (passed .before .arguments .ensures) (passed .if1 .left) (ledger-head _ (c .before .check-ledger .ensures)) (c .if2 .taken)
 
 returns-3 : tie.Need-returns-3
-returns-3 c titles rules =
+returns-3 c pair titles rules =
     let head = c .before .before .before in
     let passed = head .before .before in
-    by-state _ _ (passed .before .arguments .ensures) (passed .if1 .left) (ledger-head _ (head .before .check-ledger .ensures)) (head .if2 .left)
+    by-state _ _ _ (passed .before .arguments .ensures) (passed .if1 .left) (ledger-head _ (head .before .check-ledger .ensures)) (head .if2 .left)
     (hit 11 _ _ (denied (of-row isEmpty (c .before .is-empty .ensures) (c .before .before .state .ensures)) (c .if3 .taken)))
 
 returns-4 : tie.Need-returns-4
-returns-4 c titles rules =
+returns-4 c pair titles rules =
     let head = c .before .before .before in
     let passed = head .before .before in
-    by-state _ _ (passed .before .arguments .ensures) (passed .if1 .left) (ledger-head _ (head .before .check-ledger .ensures)) (head .if2 .left)
+    by-state _ _ _ (passed .before .arguments .ensures) (passed .if1 .left) (ledger-head _ (head .before .check-ledger .ensures)) (head .if2 .left)
     (skip 11 _ _ _ (denied (of-row isEmpty (c .before .is-empty .ensures) (c .before .before .state .ensures)) (c .if3 .left)) end)
 
 pub refusal-spec : {M : Type 1} → statement M

@@ -26,15 +26,22 @@ returns-3 : tie.Need-returns-3
 unfolding cardFormatting formattedTitles formattedRules freshTitles freshRules
 returns-3 c =
     let at-rules = c .before .before in
-    let at-titles = at-rules .before .before .before .before in
-    let at-lengths = at-titles .before .before in
+    let rules-named = at-rules .before in
+    let at-titles = rules-named .before .before .before .before in
+    let titles-named = at-titles .before in
+    let at-lengths = titles-named .before .before in
     let titles = at-lengths .before .if1 .left in
     let rules = at-lengths .if2 .left in
-    let e = holds 8 _ _ (eq-eqb _ _ titles) (holds 9 _ _ (eq-eqb _ _ rules) end) in
-    (e, (rw titles at (at-titles .fresh-table .ensures) ∙ changed _ _ e refl, rw rules at (at-rules .fresh-table2 .ensures) ∙ changed _ _ e refl))
+    let e = holds 8 _ _ (eq-eqb _ _ titles) (holds 9 _ _ (eq-eqb _ _ rules) end) in (
+      e,
+      (
+        rw (titles, titles-named .titles-identifier .ensures) at (at-titles .fresh-table .ensures) ∙ changed _ _ e refl,
+        rw (rules, rules-named .rules-identifier .ensures) at (at-rules .fresh-table2 .ensures) ∙ changed _ _ e refl,
+      ),
+    )
 
 pub format-card-spec : {M : Type 1} → statement M
 format-card-spec =
     tie.close
-    (tie.spec returns returns-2 (λ c κs. search needs) (λ c κs. search needs) (λ c. search needs) (λ c. search needs)
-    returns-3)
+    (tie.spec returns returns-2 (λ c κs. search needs) (λ c κs. search needs) (λ c κs. search needs) (λ c κs. search needs)
+    (λ c. search needs) (λ c. search needs) returns-3)

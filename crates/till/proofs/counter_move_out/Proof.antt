@@ -1,0 +1,16 @@
+-- `till::counter_move_out` meets its contract: the call's, of the pair that was given.
+-- Assumes nothing.
+use borrow.Author.Needs.{needs}
+use Rattle.till.proofs.counter_move_out.Statement.{statement}
+use Rattle.till.proofs.counter_move_out.Tie as tie
+
+returns : tie.Need-returns
+returns c =
+    let at-call = c .before .before .before .before .before .before in
+    let at-pair = at-call .before .before .before .before in
+    rw (at-pair .pair-of .ensures) at (at-call .move-out .ensures)
+
+pub counter-move-out-spec : {M : Type 1} → statement M
+counter-move-out-spec =
+    tie.close
+    (tie.spec (λ c κs. search needs) (λ c κs. search needs) (λ c. search needs) (λ c. search needs) (λ c. search needs) returns)
