@@ -44,7 +44,7 @@ target/host/till-test: host/till/test.c include/music_counter.h target/staticlib
 	@mkdir -p target/host
 	$(C) $(GUARDS) -o $@ $< target/staticlib/libtill.a
 
-# The library against an implementation of document 01 of its own: calls and requests by seed, all bytes after each.
+# The library against an implementation of the rules of its own, audio and picture: calls and requests by seed, all bytes after each.
 compare: target/host/compare
 	target/host/compare calls 5000000 1
 

@@ -9,7 +9,7 @@
  *
  * THE BUFFERS
  *
- * The caller owns three buffers and passes each as a pointer and a length in bytes:
+ * The caller owns three buffers, for music and for pictures three each, and passes each as a pointer and a length in bytes:
  *
  *   ledger   the shop's rows, COUNTER_LEDGER_SIZE(R) bytes for R rows, R from 1 to 999
  *   titles   the card's title table, opened (deciphered), COUNTER_TITLES_SIZE bytes

@@ -1,5 +1,5 @@
-//! The ten operations, by document 01, on tables of either pair: each tests its conditions in the order of their numbers, and
-//! changes the tables only when none of them refuses.
+//! The ten operations, by document 01 and request W1 of document 02, on tables of either pair: each tests its conditions in the
+//! order of their numbers, and changes the tables only when none of them refuses.
 
 use crate::tables::{CardHead, Entry, EntryKind, Facts, LedgerHead, Pair, Row, RowState, RuleHalf, Tables, TitleHalf};
 use crate::tables::{KEY_LIMIT, LAST_ENTRY, MOST_ROWS, ROW_SIZE, RULE_TABLE_SIZE, TITLE_TABLE_SIZE, UNLIMITED};
@@ -32,7 +32,7 @@ pub enum Operation {
     FormatCard,
 }
 
-/// The operations in their order, their names, and the answers that document 01 allows them.
+/// The operations in their order, their names, and the answers that the paper allows them.
 pub const OPERATIONS: [(Operation, &str, &[u64]); 10] = [
     (Operation::Register, "register", &[0, 4, 6, 7, 11]),
     (Operation::Record, "record", &[0, 4, 5, 6, 7, 8, 9, 10, 11]),
@@ -99,12 +99,14 @@ impl Call {
     }
 }
 
-/// Whether f2 of this call is the STI key of the full entry that it would wipe.
-pub fn leaves_sti_key(call: &Call, tables: &Tables) -> bool {
+/// Whether the fillers of this call would leave the STI key, and not the title key, of the full entry that it is to wipe.
+pub fn leaves_sti_key_alone(call: &Call, tables: &Tables) -> bool {
     match *call {
         Call::MoveOut { entry, fillers, .. } | Call::Delete { entry, fillers } => {
             let full = tables.entry(entry).filter(|found| found.kind() == EntryKind::Full);
-            full.is_some_and(|found| fillers[1] % KEY_LIMIT == found.rule.sti_key)
+            full.is_some_and(|found| {
+                fillers[1] % KEY_LIMIT == found.rule.sti_key && fillers[0] % KEY_LIMIT != found.title.title_key
+            })
         }
         _ => false,
     }

@@ -1,7 +1,7 @@
 //! Both implementations side by side: the same call on the same bytes, then answers and all bytes compared. And how often
 //! each answer came up.
 
-use crate::calls::{self, Call, OPERATIONS};
+use crate::calls::{self, Call, Operation, OPERATIONS};
 use crate::history::Titles;
 use crate::requests::{self, Request};
 use crate::tables::{Pair, Tables, PAIRS};
@@ -34,23 +34,39 @@ struct OfPair {
     /// Titles that demand 3 was tested of, with a holder and with a deleted one.
     titles: Titles,
     operations: [[u64; ANSWERS]; OPERATIONS.len()],
-    /// Calls on tables that are right but for the pair, by their answers.
-    other_pair: [u64; ANSWERS],
-    /// Calls whose f2 is the STI key of the full entry that they name, by their answers.
-    sti_key_left: [u64; ANSWERS],
+    /// Of these, those answered 8 or 9 for a table that is right for the other pair.
+    other_pair: [[u64; ANSWERS]; OPERATIONS.len()],
+    /// And those whose fillers would leave the STI key of a full entry, and no other key.
+    sti_key_left: [[u64; ANSWERS]; OPERATIONS.len()],
 }
 
 impl OfPair {
-    /// Of calls on tables of the other pair, 8 and 9; of fillers that leave the STI key, 16 or, for pictures, done.
+    /// Each operation that tests heads met a title table, and a rule table, of the other pair; a move out and a delete that would
+    /// leave the STI key were answered 16 or, for pictures, done; and demand 3 was tested.
     fn complete(&self, pair: Pair) -> Result<(), String> {
-        let left = if pair == Pair::Audio { 16 } else { 0 };
-        if self.other_pair[8] == 0 || self.other_pair[9] == 0 || self.sti_key_left[left] == 0 {
-            return Err(format!("{pair:?}: no table of the other pair, or no filler that leaves the STI key"));
+        for (operation, name, allowed) in &OPERATIONS[..8] {
+            let met = |counts: &[[u64; ANSWERS]], answer: usize| counts[*operation as usize][answer] > 0;
+            for answer in [8, 9].into_iter().filter(|answer| allowed.contains(answer)) {
+                if !met(&self.other_pair, answer as usize) {
+                    return Err(format!("{pair:?} {name}: no table of the other pair was answered {answer}"));
+                }
+            }
+            let wipes_full = matches!(operation, Operation::MoveOut | Operation::Delete);
+            if wipes_full && !met(&self.sti_key_left, if pair == Pair::Audio { 16 } else { 0 }) {
+                return Err(format!("{pair:?} {name}: no filler that leaves the STI key"));
+            }
         }
         if self.titles.with_holder == 0 || self.titles.deleted == 0 {
             return Err(format!("{pair:?}: demand 3 was not tested"));
         }
         Ok(())
+    }
+
+    /// How often each of these answers came up, all operations together.
+    fn together(counts: &[[u64; ANSWERS]]) -> [u64; ANSWERS] {
+        let mut sums = [0; ANSWERS];
+        counts.iter().for_each(|of_one| (0..ANSWERS).for_each(|answer| sums[answer] += of_one[answer]));
+        sums
     }
 }
 
@@ -161,15 +177,15 @@ impl Run {
         print_line("kinds read", &self.kinds_read);
         for pair in PAIRS {
             let OfPair { titles, other_pair, sti_key_left, .. } = &self.pairs[pair as usize];
-            print_line(&format!("{pair:?} on tables of the other pair"), other_pair);
-            print_line(&format!("{pair:?} with f2 the STI key"), sti_key_left);
+            print_line(&format!("{pair:?} on tables of the other pair"), &OfPair::together(other_pair));
+            print_line(&format!("{pair:?} with f2 the STI key"), &OfPair::together(sti_key_left));
             let Titles { with_holder, deleted } = titles;
             println!("{pair:?}: demand 3 tested of {with_holder} titles with a holder and {deleted} whose holder was deleted");
         }
         println!("{} calls and {} requests compared", self.calls, self.requests);
     }
 
-    /// Each answer that document 01 allows came up, and no other.
+    /// Each answer that the paper allows came up, and no other.
     pub fn complete(&self) -> Result<(), String> {
         for (name, allowed, counts) in self.tables_of_answers() {
             for (answer, count) in counts.iter().enumerate() {
@@ -225,7 +241,7 @@ impl Sides {
         // A number that no tally answers shows whether a refusal keeps it.
         self.library_tallied = u64::MAX - run.calls;
         self.expected_tallied = self.library_tallied;
-        let leaves_sti_key = calls::leaves_sti_key(call, &self.library);
+        let leaves_sti_key = calls::leaves_sti_key_alone(call, &self.library);
         let answer = till::perform(self.pair, call, &mut self.library, &mut self.library_tallied);
         let expected = calls::perform(self.pair, call, &mut self.expected, &mut self.expected_tallied);
         if answer != expected || self.first_difference().is_some() {
@@ -239,12 +255,13 @@ impl Sides {
 
     fn note(&self, run: &mut Run, call: &Call, answer: usize, leaves_sti_key: bool) {
         let came_up = &mut run.pairs[self.pair as usize];
-        came_up.operations[call.operation() as usize][answer] += 1;
+        let operation = call.operation() as usize;
+        came_up.operations[operation][answer] += 1;
         let other = self.pair.other();
         let of_other = (answer == 8 && self.library.title_head(other).is_some())
             || (answer == 9 && self.library.rule_head(other).is_some());
-        came_up.other_pair[answer] += u64::from(of_other);
-        came_up.sti_key_left[answer] += u64::from(leaves_sti_key);
+        came_up.other_pair[operation][answer] += u64::from(of_other);
+        came_up.sti_key_left[operation][answer] += u64::from(leaves_sti_key);
     }
 
     fn first_difference(&self) -> Option<String> {

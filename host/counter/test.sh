@@ -41,7 +41,8 @@ check 'a CCI of 1' "$(lines '1 0' 'end 6')" < <(bytes "$register" 01 02 01)
 # the ledger has 64 rows, and its application number is the card's
 check 'rows 64 and 65' "$(lines '1 0' '1 11' 'end 0')" < <(bytes 01 40 00 00 00 00 00 00 01 41 00 00 00 00 00 00)
 
-# a title's way by every kind but register: recorded with hash 9, moved out, lent, returned, moved in, deleted
+# a title's way by every kind but register: recorded with hash 9, moved out, lent, returned, moved in, deleted. The program's calls
+# are audio calls: a move out and a delete whose f2 is the STI key 06 are answered 16, where a picture call would be done.
 check 'every other kind' "$(lines '2 0' '5 13' '5 16' '5 16' '5 0' '3 0' '4 16' '4 0' '6 0' '7 16' '7 0' '7 10' 'end 0')" < <(
     bytes 02 03 0A 00 00 02 02 05 06 09  05 0A 08 01 02 03 04  05 0A 09 05 02 03 04  05 0A 09 01 06 03 04
     bytes 05 0A 09 01 02 03 04  03 03 0B  04 0B 05  04 0B 07  06 03 0C 08

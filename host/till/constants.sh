@@ -5,7 +5,8 @@
 #     with `/* words */` in the header, and `counter_text` answers these words for it; 0 is `done`; there is no other constant,
 #     no number is left out and no two have the same words;
 #   - every size, and the two values of a pair: what the definitions or the code have for it;
-#   - the number of the interface: that of the last landing note that has one;
+#   - the number of the interface: that of the last landing note that has one, whose checksum of the declarations is that of the
+#     header's, so that no declaration changes without a new number;
 #   - the numbers by name in host/requests, which takes its texts from the header.
 #
 # constants.sh FILE..: the sources in which refusals have their names. Exit code 1 where something differs, with what it is.
@@ -89,7 +90,14 @@ pair() {
     sed -nE "s@^pairOf (false|true) = $1\$@\1@p" crates/till/specs/Given.antt
 }
 
-sizes="INTERFACE $(sed -nE 's@^Interface: ([0-9]+)$@\1@p' docs/landings/*.md | sort -n | tail -n 1)
+# The declarations of the header's functions, without their layout, as a checksum.
+declarations() {
+    sed -n '/^uint64_t counter_/,/;$/p' "$header" | tr -s ' \n' ' ' | cksum | cut -d' ' -f1
+}
+
+interface=$(sed -nE 's@^Interface: ([0-9]+), declarations ([0-9]+)$@\1 \2@p' docs/landings/*.md | sort -n | tail -n 1)
+same 'the declarations, by their checksum, of the last landing note that has one' "${interface#* }" "$(declarations)"
+sizes="INTERFACE ${interface% *}
 AUDIO $(pair Audio)
 PICTURE $(pair Picture)
 TITLES_SIZE $(number 'tablePasses \(titlesIdentifier pair\) ([0-9]+) ' crates/formats/specs/Head.antt)

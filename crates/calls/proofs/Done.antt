@@ -11,6 +11,7 @@ use native.Mathlib.Decide.{decLt, ℕ-discrete}
 use lib.ListN.{length, getD}
 use lib.Dec.{eqb}
 use Rattle.formats.specs.declared.head.Pair.{Pair}
+use Rattle.formats.specs.declared.head.Pair.the-variants.{Audio}
 use Rattle.formats.specs.Part.{part, put}
 use Rattle.formats.specs.Half.{keyOf, idOf, wiped}
 use Rattle.formats.specs.Title.{cciOf, titleHalf}
@@ -158,7 +159,7 @@ module _ (b : Buffers) (j : ℕ) (o : OnCard b j) where
       let e = title-is (wiped t f1) (wiped-title-long b j o f1) in
       record { title-half = e; key-gone = λ same. wiped-key-gone (half-wiped t f1) other (ap keyOf (sym e) ∙ same) }
 
-  rule-half-wiped : (pair : Pair) (f : Fillers) (ledger titles : List ℕ) → WipesStiKey pair b j (f .f2)
+  rule-half-wiped : (pair : Pair) (f : Fillers) (ledger titles : List ℕ) → (pair ≡ Audio → WipesStiKey b j (f .f2))
       → RuleWiped pair j f b (buffersOf ledger titles (put (b .rules) (32 * j) (wipedRule r f)))
   rule-half-wiped pair f ledger titles other =
       let e = rule-is (wipedRule r f) (wiped-rule-long b j o f) in

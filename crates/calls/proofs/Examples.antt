@@ -24,15 +24,14 @@ use Rattle.requests.specs.declared.request.Request.{Request}
 use Rattle.requests.specs.declared.request.Request.the-variants.{Register, Record, CheckOut, CheckIn, MoveOut, MoveIn, Delete}
 use Rattle.formats.proofs.Tests.{both, and-false, refuted}
 use Rattle.formats.proofs.entry.Laws.{kind-copy, torn-cci, torn-ids}
-use Rattle.formats.proofs.head.Laws.{table-head, rules-head, rules-pass}
+use Rattle.formats.proofs.head.Laws.{ledger-passes, titles-pass, table-head, rules-head, rules-pass}
 use Rattle.calls.specs.Count.{oneLess, oneMore}
 use Rattle.calls.specs.Buffers.{Buffers, rowFacts, contentAt}
-use Rattle.calls.specs.Refusal.{first}
-use Rattle.calls.specs.Conditions.{argumentConditions, allHeadConditions, stateConditions, conditions}
+use Rattle.calls.specs.Conditions.{allHeadConditions, stateConditions, conditions}
 use Rattle.calls.specs.Perform.{perform}
 use Rattle.calls.specs.Needs.{MetBelow, needsOf}
 use Rattle.calls.specs.Examples.{E1, E2, E3, E4, E5, Moves, E6, E7, E8, ChecksIn, E9, E10, TenExamples}
-use Rattle.calls.proofs.Refusals.{past, of-first, to-none, meets, answer-first, refused-by, holds-not, fails-so}
+use Rattle.calls.proofs.Refusals.{of-first, meets, refused-by, holds-not, fails-so}
 use Rattle.calls.proofs.Limits.{after-arguments}
 use Rattle.calls.proofs.Done.{work-is-done}
 
@@ -114,8 +113,8 @@ example-7 =
       version-10 = λ pair k b lent before version.
           let fails : rulesPass pair (b .rules) ≡ false = refuted (λ e. omega (arith, rules-head e .version)) in
           let wrong : rulesOk pair b ≡ false = ap (λ (x : Bool). x && sameApplication b) fails in
-          after-arguments pair k b lent (before .its-arguments)
-          ∙ of-first 9 (allHeadConditions pair b ++ stateConditions pair k b) (inr (holds-not (before .ledger), inr (holds-not (before .titles), inl (fails-so wrong, refl))));
+          after-arguments pair k b lent (before .until-8 .its-arguments)
+          ∙ of-first 9 (allHeadConditions pair b ++ stateConditions pair k b) (inr (holds-not (ledger-passes (before .until-8 .ledger)), inr (holds-not (titles-pass (before .titles)), inl (fails-so wrong, refl))));
     }
 
 -- usable halves with two IDs, whatever the CCI

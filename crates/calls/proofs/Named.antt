@@ -5,6 +5,7 @@ use mathlib.Core.Path.{_≡_}
 use mathlib.Core.Logic.{_≢_, _⊎_, inl, inr}
 use native.Mathlib.Omega.{arith}
 use Rattle.formats.specs.declared.head.Pair.{Pair}
+use Rattle.formats.specs.declared.head.Pair.the-variants.{Audio}
 use Rattle.formats.specs.Head.{LedgerHead, TitlesHead}
 use Rattle.formats.specs.declared.facts.Facts.{Facts}
 use Rattle.formats.specs.declared.facts.Fillers.{Fillers}
@@ -59,7 +60,7 @@ pub record MoveOutNeeds (pair : Pair) (j h : ℕ) (f : Fillers) (b : Buffers) : 
   pub may-move : MayMove (factsAt b j)
   pub hash : h ≡ hashAt b j
   pub title-key : WipesTitleKey b j (f .f1)
-  pub sti-key : WipesStiKey pair b j (f .f2)
+  pub sti-key : pair ≡ Audio → WipesStiKey b j (f .f2)
 
 pub record MoveInNeeds (pair : Pair) (c j : ℕ) (b : Buffers) : Type 0 where
   pub content : Within 999 c
@@ -72,7 +73,7 @@ pub record MoveInNeeds (pair : Pair) (c j : ℕ) (b : Buffers) : Type 0 where
 
 pub data Deletable (pair : Pair) (j : ℕ) (f : Fillers) (b : Buffers) : Type 0 where
   a-copy : kindAt b j ≡ Copy → Deletable pair j f b
-  a-holder : kindAt b j ≡ Full → stateAt b (contentAt b j) ≡ Away → WipesStiKey pair b j (f .f2) → Deletable pair j f b
+  a-holder : kindAt b j ≡ Full → stateAt b (contentAt b j) ≡ Away → (pair ≡ Audio → WipesStiKey b j (f .f2)) → Deletable pair j f b
 
 pub record DeleteNeeds (pair : Pair) (j : ℕ) (f : Fillers) (b : Buffers) : Type 0 where
   pub entry : Within 999 j
@@ -139,7 +140,7 @@ module _ (pair : Pair) (b : Buffers) (j : ℕ) (f : Fillers) where
   away-if (a-copy copy) = not-both copy
   away-if (a-holder full away key) = λ e. away
 
-  key-if : Deletable pair j f b → kindAt b j ≡ Full → WipesStiKey pair b j (f .f2)
+  key-if : Deletable pair j f b → kindAt b j ≡ Full → pair ≡ Audio → WipesStiKey b j (f .f2)
   key-if (a-copy copy) = not-both copy
   key-if (a-holder full away key) = λ e. key
 

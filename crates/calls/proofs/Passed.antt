@@ -1,6 +1,6 @@
 -- A call passes its conditions exactly where its needs are met.
 -- Assumes nothing.
-use Prim.Native.Nat.{ℕ, _%_, _^_}
+use Prim.Native.Nat.{ℕ}
 use mathlib.Core.Path.{_≡_, refl, sym, ap, _∙_}
 use mathlib.Core.Logic.{_≢_, _⊎_, inl, inr, ⊎-elim}
 use mathlib.Core.List.{List, [], _∷_}
@@ -11,7 +11,6 @@ use lib.Dec.{eqb}
 use borrow.Author.Tests.{lt-ltb, ltb-true, eq-eqb, ne-eqb, eqb-true, eqb-false, not-false}
 use Rattle.formats.specs.declared.head.Pair.{Pair}
 use Rattle.formats.specs.declared.head.Pair.the-variants.{Audio, Picture}
-use Rattle.formats.specs.Half.{keyOf}
 use Rattle.formats.specs.Facts.{numbered, factsPass, inRange, keyPasses}
 use Rattle.formats.specs.Head.{LedgerHead, TitlesHead, RulesHead, ledgerPasses, ledgerApplication, titlesPass, rulesPass, rulesApplication}
 use Rattle.formats.specs.declared.facts.Facts.{Facts}
@@ -26,7 +25,7 @@ use Rattle.formats.proofs.facts.Laws.{numbered-range, range-numbered, Ranges, r
 use Rattle.formats.proofs.head.Laws.{ledger-head, ledger-passes, titles-head, titles-pass, rules-head, rules-pass}
 use Rattle.calls.specs.Buffers.{Buffers, stateAt, rowFacts, hereFacts, kindAt, contentAt, factsAt, isFree, isCopy, isFull, isEmpty, isHere, isAway, one, copies, Within}
 use Rattle.calls.specs.Refusal.{Condition, _when_, first, FirstToHold, NoneHolds}
-use Rattle.calls.specs.Conditions.{leavesStiKey, mayNotMove, conditions}
+use Rattle.calls.specs.Conditions.{looksAtF2, mayNotMove, conditions}
 use Rattle.calls.specs.Perform.{perform}
 use Rattle.calls.specs.Needs.{Need, _needs_, AllMet, FirstUnmet, AnsweredBy, FactsInRange, RulesOfLedger, MayMove, NoCopy, needsOf}
 use Rattle.calls.proofs.Refusals.{refusing, none-is-0, answer-first, of-first, to-first, of-none, to-none, holds-not}
@@ -164,13 +163,6 @@ tests-other a n = record { met = eqb-false a n; unmet = ne-eqb a n }
 pub tests-same : (a n : ℕ) → Tests (not (eqb a n)) (a ≡ n)
 tests-same a n = record { met = λ e. eqb-true a n (not-false _ e); unmet = λ e. holds-not (eq-eqb a n e) }
 
--- 16: the STI key, of which nothing is asked in a picture call
-tests-sti-key : (pair : Pair) (f2 : ℕ) (half : List ℕ) → Tests (leavesStiKey pair f2 half) (pair ≡ Audio → f2 % 2 ^ 56 ≢ keyOf half)
-tests-sti-key Audio f2 half =
-    let t = tests-other (f2 % 2 ^ 56) (keyOf half) in
-    record { met = λ e audio. t .met e; unmet = λ other. t .unmet (other refl) }
-tests-sti-key Picture f2 half = record { met = λ e audio. let z : _≡_ {A = ℕ} 0 1 = cc in absurd (omega arith); unmet = λ other. refl }
-
 -- two tests of which neither is to hold
 tests-both : {a b : Bool} {P Q : Type 0} → Tests a P → Tests b Q → Tests (a || b) (P × Q)
 tests-both {a} {b} p q =
@@ -191,6 +183,11 @@ module _ (k : EntryKind) {y : Bool} {Q : Type 0} (q : Tests y Q) where
 
   tests-if-full : Tests (isFull k && y) (k ≡ Full → Q)
   tests-if-full = if-full (isFull k) (λ e. is-full k (holds-not e)) (λ e. ap isFull e)
+
+-- a test that is made in audio calls only
+tests-if-audio : (pair : Pair) {y : Bool} {Q : Type 0} → Tests y Q → Tests (looksAtF2 pair && y) (pair ≡ Audio → Q)
+tests-if-audio Audio q = record { met = λ e audio. q .met e; unmet = λ f. q .unmet (f refl) }
+tests-if-audio Picture q = record { met = λ e audio. let z : _≡_ {A = ℕ} 0 1 = cc in absurd (omega arith); unmet = λ f. refl }
 
 -- a copy or a full entry
 tests-either : (k : EntryKind) → Tests (not (isCopy k || isFull k)) ((k ≡ Copy) ⊎ (k ≡ Full))
@@ -292,7 +289,7 @@ in-step pair (CheckIn j f1) b =
 in-step pair (MoveOut j h f) b =
     tests-number (j .0) then tests-ledger (b .ledger) then tests-titles pair (b .titles) then tests-rules pair b
     then tests-full (kindAt b (j .0)) then tests-away (stateAt b (contentAt b (j .0))) then tests-move (factsAt b (j .0)) then tests-same h _
-    then tests-both (tests-other _ _) (tests-sti-key pair _ _) then end
+    then tests-both (tests-other _ _) (tests-if-audio pair (tests-other _ _)) then end
 in-step pair (MoveIn c j h) b =
     tests-number (c .0) then tests-number (j .0) then tests-ledger (b .ledger) then tests-titles pair (b .titles) then tests-rules pair b
     then tests-free (kindAt b (j .0)) then tests-here (stateAt b (c .0)) then tests-move (rowFacts b (c .0)) then tests-copies (c .0) b then end
@@ -300,7 +297,7 @@ in-step pair (Delete j f) b =
     let k = kindAt b (j .0) in
     tests-number (j .0) then tests-ledger (b .ledger) then tests-titles pair (b .titles) then tests-rules pair b
     then tests-either k then tests-if-full k (tests-away (stateAt b (contentAt b (j .0))))
-    then tests-both (tests-other _ _) (tests-if-full k (tests-sti-key pair _ _)) then end
+    then tests-both (tests-other _ _) (tests-if-full k (tests-if-audio pair (tests-other _ _))) then end
 
 module _ (pair : Pair) (k : Request) (b : Buffers) where
   -- a call is done where its needs are met, and else answered by the first that is not

@@ -1,7 +1,7 @@
 -- The refusal conditions of the seven calls on tables of either pair: "Checks of a call .. go in number order over what it takes."
 use Prim.Native.Nat.{ℕ, _%_, _^_}
 use mathlib.Core.List.{List, [], _∷_, _++_}
-use mathlib.Core.Bool.{Bool, false, not, _&&_, _||_}
+use mathlib.Core.Bool.{Bool, true, false, not, _&&_, _||_}
 use lib.Dec.{eqb}
 use Rattle.formats.specs.Facts.{factsPass}
 use Rattle.formats.specs.Half.{keyOf}
@@ -59,15 +59,15 @@ mayNotMove trigger rights = eqb trigger 1 || eqb rights 0
 abbrev pub leavesKey : ℕ → List ℕ → Bool
 leavesKey filler half = eqb (filler % 2 ^ 56) (keyOf half)
 
--- "In picture calls condition 16 looks at f1 only.": f2 is tested in audio calls alone
-abbrev pub leavesStiKey : Pair → ℕ → List ℕ → Bool
-leavesStiKey Audio f2 half = leavesKey f2 half
-leavesStiKey Picture f2 half = false
+-- "In picture calls condition 16 looks at f1 only."
+abbrev pub looksAtF2 : Pair → Bool
+looksAtF2 Audio = true
+looksAtF2 Picture = false
 
 -- 10 entry j not of the kind the call needs; 11 row above R or not in the state needed; 12 check-out with permits 0, move
 -- with trigger 1 or rights 0 (the entry's on a move out, the row's on a move in); 13 move out: h differs from the stored
--- C_HASH; 14 move in: a copy of c on the card; 15 check-in: permits are 14; 16 f1 leaves the title key, or (full entries)
--- f2 the STI key
+-- C_HASH; 14 move in: a copy of c on the card; 15 check-in: permits are 14; 16 f1 leaves the title key, or (full entries,
+-- in an audio call) f2 the STI key
 abbrev pub stateConditions : Pair → Request → Buffers → List Condition
 stateConditions pair (Register c f) b =
     11 unless isEmpty (stateAt b (c .0))
@@ -92,7 +92,7 @@ stateConditions pair (MoveOut j h f) b =
     ∷ 11 unless isAway (stateAt b (contentAt b (j .0)))
     ∷ 12 when mayNotMove (factsAt b (j .0) .trigger) (factsAt b (j .0) .rights)
     ∷ 13 unless eqb h (hashOf (ruleAt (b .rules) (j .0)))
-    ∷ 16 when (leavesKey (f .f1) (titleAt (b .titles) (j .0)) || leavesStiKey pair (f .f2) (ruleAt (b .rules) (j .0)))
+    ∷ 16 when (leavesKey (f .f1) (titleAt (b .titles) (j .0)) || (looksAtF2 pair && leavesKey (f .f2) (ruleAt (b .rules) (j .0))))
     ∷ []
 stateConditions pair (MoveIn c j h) b =
     10 unless isFree (kindAt b (j .0))
@@ -103,7 +103,7 @@ stateConditions pair (MoveIn c j h) b =
 stateConditions pair (Delete j f) b =
     10 unless (isCopy (kindAt b (j .0)) || isFull (kindAt b (j .0)))
     ∷ 11 when (isFull (kindAt b (j .0)) && not (isAway (stateAt b (contentAt b (j .0)))))
-    ∷ 16 when (leavesKey (f .f1) (titleAt (b .titles) (j .0)) || (isFull (kindAt b (j .0)) && leavesStiKey pair (f .f2) (ruleAt (b .rules) (j .0))))
+    ∷ 16 when (leavesKey (f .f1) (titleAt (b .titles) (j .0)) || (isFull (kindAt b (j .0)) && (looksAtF2 pair && leavesKey (f .f2) (ruleAt (b .rules) (j .0)))))
     ∷ []
 
 -- all of them, in number order

@@ -6,11 +6,11 @@ use mathlib.Core.List.{List, [], _∷_}
 use mathlib.Core.Bool.{true, false}
 use lib.ListN.{length, getD}
 use Rattle.requests.specs.Number.{groups, readNumber}
-use Rattle.requests.specs.Request.{kindOf as callOf, limitOf, written, readRequest}
+use Rattle.requests.specs.Request.{kindOf as callOf, written, readRequest}
 use Rattle.formats.specs.Half.{keyOf, flagOf, idOf, usableOf}
 use Rattle.formats.specs.Title.{cciOf, titleHalf}
 use Rattle.formats.specs.Entry.{kindOf}
-use Rattle.formats.specs.Head.{rulesIdentifier, ledgerPasses, ledgerApplication, tablePasses, titlesPass, rulesApplication}
+use Rattle.formats.specs.Head.{rulesIdentifier, ledgerApplication, tablePasses, rulesApplication}
 use Rattle.formats.specs.declared.head.Pair.{Pair}
 use Rattle.formats.specs.declared.facts.ContentId.{ContentId}
 use Rattle.formats.specs.declared.facts.EntryNumber.{EntryNumber}
@@ -24,6 +24,7 @@ use Rattle.formats.specs.declared.row.RowState.the-variants.{Here}
 use Rattle.calls.specs.Buffers.{Buffers, stateAt, rowFacts, kindAt, contentAt, factsAt}
 use Rattle.calls.specs.Perform.{perform, AreBytes}
 use Rattle.calls.specs.Needs.{MetBelow, needsOf, Needs}
+use Rattle.calls.specs.Pairs.{PassesUntil9}
 
 -- a number and its bytes, as it is written and as it is read
 abbrev pub NumberBytes : ℕ → List ℕ → Type 0
@@ -103,12 +104,6 @@ E6 = Moves 15 15 × Moves 14 13 × Moves 1 0
 pub record PassesButVersion (pair : Pair) (b : Buffers) : Type 0 where
   pub table : tablePasses (rulesIdentifier pair) 32000 32 0x02 (b .rules) ≡ true
   pub application : rulesApplication (b .rules) ≡ ledgerApplication (b .ledger)
-
--- the checks of a call before that of the rule table pass: its arguments are within their limits, and two heads are right
-pub record PassesUntil9 (pair : Pair) (k : Request) (b : Buffers) : Type 0 where
-  pub its-arguments : limitOf k ≡ 0
-  pub ledger : ledgerPasses (b .ledger) ≡ true
-  pub titles : titlesPass pair (b .titles) ≡ true
 
 -- E7: rule version 12h passes; 10h: 9. So it is for both pairs and each call that is lent the card, which is all but 1, register.
 pub record E7 : Type 0 where

@@ -72,9 +72,9 @@ pub record MayMove (f : Facts) : Type 0 where
 abbrev pub WipesTitleKey : Buffers → ℕ → ℕ → Type 0
 WipesTitleKey b j f1 = f1 % 2 ^ 56 ≢ titleKey b j
 
--- nor, in an audio call, of its STI key: "f2 mod 2^56 the STI key"; "In picture calls condition 16 looks at f1 only."
-abbrev pub WipesStiKey : Pair → Buffers → ℕ → ℕ → Type 0
-WipesStiKey pair b j f2 = pair ≡ Audio → f2 % 2 ^ 56 ≢ stiKey b j
+-- nor of its STI key: "f2 mod 2^56 the STI key"
+abbrev pub WipesStiKey : Buffers → ℕ → ℕ → Type 0
+WipesStiKey b j f2 = f2 % 2 ^ 56 ≢ stiKey b j
 
 -- no entry of the card is a copy of c
 abbrev pub NoCopy : Buffers → ℕ → Type 0
@@ -129,7 +129,7 @@ needsOf pair (MoveOut j h f) b =
     ∷ 11 needs (stateAt b (contentAt b (j .0)) ≡ Away)
     ∷ 12 needs MayMove (factsAt b (j .0))
     ∷ 13 needs (h ≡ hashAt b (j .0))
-    ∷ 16 needs (WipesTitleKey b (j .0) (f .f1) × WipesStiKey pair b (j .0) (f .f2))
+    ∷ 16 needs (WipesTitleKey b (j .0) (f .f1) × (pair ≡ Audio → WipesStiKey b (j .0) (f .f2)))
     ∷ []))
 needsOf pair (MoveIn c j h) b =
     4 needs Within 999 (c .0)
@@ -145,7 +145,7 @@ needsOf pair (Delete j f) b =
     ∷ (headNeeds pair b
     ++ (10 needs ((kindAt b (j .0) ≡ Copy) ⊎ (kindAt b (j .0) ≡ Full))
     ∷ 11 needs (kindAt b (j .0) ≡ Full → stateAt b (contentAt b (j .0)) ≡ Away)
-    ∷ 16 needs (WipesTitleKey b (j .0) (f .f1) × (kindAt b (j .0) ≡ Full → WipesStiKey pair b (j .0) (f .f2)))
+    ∷ 16 needs (WipesTitleKey b (j .0) (f .f1) × (kindAt b (j .0) ≡ Full → pair ≡ Audio → WipesStiKey b (j .0) (f .f2)))
     ∷ []))
 
 -- a call has all that it needs of the buffers that it is lent

@@ -1,4 +1,4 @@
--- A call on the buffers, with the pair that its card tables are to be: its answer, and the buffers after it.
+-- A call of a pair on the buffers: its answer, and the buffers after it.
 use Prim.Native.Nat.{ℕ}
 use mathlib.Core.Path.{_≡_}
 use mathlib.Core.List.{List, [], _∷_}

@@ -1,5 +1,5 @@
--- Document 01's sample run of the program, as calls on a fresh ledger and card: "Input, all in hexadecimal, 01 01 02 00 01 01 05
--- 06, 03 01 07, 03 01 08, 06 01 09 00, 04 07 09, 06 01 09 00".
+-- Document 01's sample run of the program, as calls on a fresh ledger and card, of either pair: "Input, all in hexadecimal, 01 01 02
+-- 00 01 01 05 06, 03 01 07, 03 01 08, 06 01 09 00, 04 07 09, 06 01 09 00".
 use Prim.Native.Nat.{ℕ}
 use mathlib.Core.Path.{_≡_}
 use mathlib.Core.List.{List, [], _∷_}

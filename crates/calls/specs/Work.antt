@@ -13,9 +13,8 @@ use Rattle.formats.specs.Title.{cciOf, titleHalf}
 use Rattle.formats.specs.Rule.{ruleHalf, wipedRule}
 use Rattle.formats.specs.Row.{hereRow, plainRow}
 use Rattle.formats.specs.declared.head.Pair.{Pair}
-use Rattle.formats.specs.declared.head.Pair.the-variants.{Audio, Picture}
+use Rattle.formats.specs.declared.head.Pair.the-variants.{Audio}
 use Rattle.formats.specs.declared.facts.ContentId.{ContentId}
-use Rattle.formats.specs.declared.facts.EntryNumber.{EntryNumber}
 use Rattle.formats.specs.declared.facts.Facts.{Facts}
 use Rattle.formats.specs.declared.facts.Fillers.{Fillers}
 use Rattle.formats.specs.declared.entry.EntryKind.the-variants.{Free, Copy, Full}

@@ -1,4 +1,4 @@
-// Formats a ledger of 64 rows and a card, and serves the requests of standard input, at most 4,096 bytes of them. It prints
+// Formats a ledger of 64 rows and an audio card, and serves the requests of standard input, at most 4,096 bytes of them. It prints
 // a line for each request, its kind and its answer, and then `end` and the number that stopped reading, 0 at the end.
 use formats::head::Pair;
 use music_counter::serve;

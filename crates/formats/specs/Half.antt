@@ -8,7 +8,8 @@ use Rattle.formats.specs.Facts.{numbered}
 use Rattle.formats.specs.Part.{part, put}
 use Rattle.formats.specs.Field.{number, bytesOf}
 
--- "1-7 the title key", "1-7 the track information (STI) key"
+-- "1-7 the title key", "1-7 the track information (STI) key"; of a picture, "STI field .. filled with a random number that the module
+-- gives as the STI key"
 abbrev pub keyOf : List ℕ → ℕ
 keyOf h = number (part h 1 7)
 

@@ -12,7 +12,8 @@ pub enum Pair {
     Picture,
 }
 
-// The first eight bytes of a right title table: "A1" or "P1", byte 2 as 0, version 10h, the size.
+// The first eight bytes of a right title table: "A1" or "P1", byte 2 as 0, version 10h, the size. A word for each pair: put together
+// from the identifier, it takes longer to compare.
 fn titles_front(pair: Pair) -> u64
     ensures { λ r. ⌜ r ≡ titlesIdentifier pair * 2 ^ 48 + 0x1000003e80 ⌝ }
 {
@@ -32,7 +33,7 @@ fn rules_front(pair: Pair) -> u64
     }
 }
 
-// The identifier of a title table.
+// The identifier of a title table, which is the front of that word.
 pub fn titles_identifier(pair: Pair) -> u64
     ensures { λ r. ⌜ r ≡ titlesIdentifier pair ⌝ }
 {
@@ -84,7 +85,7 @@ pub fn check_titles(pair: Pair, titles: &[u8]) -> u64
     if titles.len() != 16000 {
         return refusal::TITLES;
     }
-    // byte 2 is ignored, and the version is 10h or 09h
+    // byte 2 is ignored, and the version is 10h or 09h, which is 7 less in its byte
     let front = field::read_at(titles, 0, 8) & 0xffff_00ff_ffff_ffff;
     let right = titles_front(pair);
     if front != right {
@@ -117,7 +118,7 @@ pub fn check_rules(pair: Pair, rules: &[u8]) -> u64
     if rules[3] < 0x11 {
         return refusal::RULES;
     }
-    // byte 2 is ignored
+    // byte 2 is ignored, and the version was tested above
     if field::read_at(rules, 0, 8) & 0xffff_0000_ffff_ffff != rules_front(pair) {
         return refusal::RULES;
     }

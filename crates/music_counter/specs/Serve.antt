@@ -31,7 +31,7 @@ readStream (suc n) (b ∷ s) = further (λ rest. readStream n rest) (b ∷ s) (r
 unfoldable pub streamOf : List ℕ → Stream
 streamOf s = readStream (length s) s
 
--- the run of a stream's requests from what a server is lent
+-- the run of a stream's requests, as calls of one pair, from what a server is lent
 abbrev pub servedRun : Pair → List ℕ → Buffers → Run
 servedRun pair s b = run pair (streamOf s .requests) (from b)
 
@@ -45,7 +45,7 @@ overwritten [] numbers = []
 overwritten (x ∷ places) [] = x ∷ places
 overwritten (x ∷ places) (n ∷ numbers) = n ∷ overwritten places numbers
 
--- the stream s was served from the buffers `before`: the number that stopped it and how many requests it had, the buffers, and
+-- the stream s was served, as calls of one pair, from the buffers `before`: the number that stopped it and how many requests it had, the buffers, and
 -- the places for kinds and answers, as they were and as they are
 pub record Serves (pair : Pair) (s : List ℕ) (before : Buffers) (r : Served) (after : Buffers) (kinds kinds′ answers answers′ : List ℕ) : Type 0 where
   pub stop : r .stop ≡ streamOf s .stop

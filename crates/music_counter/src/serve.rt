@@ -73,7 +73,7 @@ fn note(places: &mut [u64], i: usize, number: u64)
     }
 }
 
-// Serves a whole stream, to its end or to the first request that cannot be read; everything before it is carried out. `kinds` and
+// Serves a whole stream, as calls of one pair, to its end or to the first request that cannot be read; everything before it is carried out. `kinds` and
 // `answers` get each request's, as many as they have places.
 pub fn all(
     pair: Pair,

@@ -40,7 +40,7 @@ fn state(
     if card::leaves_title_key(titles, entry, fillers.f1) {
         return refusal::FILLER;
     }
-    if card::leaves_sti_key(pair, rules, entry, fillers.f2) {
+    if card::refuses_f2(pair, rules, entry, fillers.f2) {
         return refusal::FILLER;
     }
     0

@@ -2,6 +2,7 @@
 -- Assumes nothing.
 use Prim.Native.Nat.{ℕ, _+_, _*_}
 use mathlib.Core.Path.{_≡_, refl, sym, ap, _∙_}
+use mathlib.Core.Logic.{inl, inr}
 use mathlib.Core.List.{List, [], _∷_}
 use mathlib.Core.Bool.{Bool, true, false, not, cond}
 use native.Mathlib.Decide.{ℕ-discrete}
@@ -16,8 +17,9 @@ use Rattle.formats.proofs.head.Laws.{fresh-ledger-length, fresh-titles-length, 
 use Rattle.calls.specs.Buffers.{copies}
 use Rattle.tables.specs.Format.{ledgerConditions, ledgerFormatting, formattedLedger, cardConditions, cardFormatting, formattedTitles, formattedRules}
 use Rattle.tables.specs.Tally.{tallyConditions, tallyRefusal, tallied}
-use Rattle.tables.specs.Demand1.{FormatsLedger, FormatsCard, Tallies, Demand1Tables}
+use Rattle.tables.specs.Demand1.{FormatsLedger, FormatsCard, Tallies, TalliesOtherPair, Demand1Tables}
 use Rattle.calls.proofs.Refusals.{refused-first, either-way}
+use Rattle.calls.proofs.Pairs.{other-titles, other-rules}
 use Rattle.calls.proofs.Passed.{end, _then_, answered-by, tests-number, tests-same, tests-titles, tests-rule-head}
 
 -- a test of a length that does not refuse
@@ -76,6 +78,14 @@ tallies pair titles rules c =
       answered = answered-by (tests-number c then tests-titles pair titles then tests-rule-head pair rules then end) refl (number-is n values);
     }
 
+tallies-other-pair : (pair : Pair) (titles rules : List ℕ) (c : ℕ) → TalliesOtherPair pair titles rules c
+tallies-other-pair pair titles rules c =
+    let answered = tallies pair titles rules c .answered in
+    record {
+      by-titles = λ numbered t. answered .refused 8 (inr (numbered, inl (other-titles pair titles t, refl)));
+      by-rules = λ numbered t r. answered .refused 9 (inr (numbered, inr (t, inl (other-rules pair rules r, refl))));
+    }
+
 -- DEMAND 1
 pub demand-1-tables : Demand1Tables
-demand-1-tables = record { ledger = formats-ledger; card = formats-card; tally = tallies }
+demand-1-tables = record { ledger = formats-ledger; card = formats-card; tally = tallies; other-pair = tallies-other-pair }

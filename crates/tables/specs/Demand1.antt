@@ -10,6 +10,7 @@ use Rattle.formats.specs.Head.{TitlesHead, RulesHead, freshLedger, freshTitles,
 use Rattle.calls.specs.Buffers.{copies, Within}
 use Rattle.calls.specs.Refusal.{RefusedFirst}
 use Rattle.calls.specs.Needs.{_needs_, AnsweredBy}
+use Rattle.calls.specs.Pairs.{otherPair}
 use Rattle.tables.specs.Format.{ledgerConditions, ledgerFormatting, formattedLedger, cardConditions, cardFormatting, formattedTitles, formattedRules}
 use Rattle.tables.specs.Tally.{tallyConditions, tallied}
 
@@ -35,8 +36,14 @@ pub record Tallies (pair : Pair) (titles rules : List ℕ) (c : ℕ) : Type 0 wh
       [] (tallied pair titles rules c .values) (copies c titles rules ∷ [])
   pub answered : AnsweredBy (4 needs Within 999 c ∷ 8 needs TitlesHead pair titles ∷ 9 needs RulesHead pair rules ∷ []) (tallied pair titles rules c .number)
 
+-- on a card of the other pair a tally is answered 8; where only the rule table is of the other pair, 9
+pub record TalliesOtherPair (pair : Pair) (titles rules : List ℕ) (c : ℕ) : Type 0 where
+  pub by-titles : Within 999 c → TitlesHead (otherPair pair) titles → tallied pair titles rules c .number ≡ 8
+  pub by-rules : Within 999 c → TitlesHead pair titles → RulesHead (otherPair pair) rules → tallied pair titles rules c .number ≡ 9
+
 -- DEMAND 1, of formatting and tally
 pub record Demand1Tables : Type 0 where
   pub ledger : (ledger : List ℕ) (rows application : ℕ) → FormatsLedger ledger rows application
   pub card : (pair : Pair) (titles rules : List ℕ) (application : ℕ) → FormatsCard pair titles rules application
   pub tally : (pair : Pair) (titles rules : List ℕ) (c : ℕ) → Tallies pair titles rules c
+  pub other-pair : (pair : Pair) (titles rules : List ℕ) (c : ℕ) → TalliesOtherPair pair titles rules c

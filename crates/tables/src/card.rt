@@ -1,10 +1,11 @@
 // The entries of a card: an entry's two halves, as the parts of the tables that they occupy, and what the entry is.
 ghost use mathlib.Core.Path.{_≡_};
+ghost use mathlib.Core.Bool.{_&&_};
 ghost use Rattle.formats.specs.Half.{idOf};
 ghost use Rattle.formats.specs.Rule.{triggerOf, rightsOf, hashOf};
 ghost use Rattle.formats.specs.Entry.{kindAnswer, kindOf, entryFacts};
 ghost use Rattle.calls.specs.Buffers.{titleAt, ruleAt, isFree, isCopy, isFull};
-ghost use Rattle.calls.specs.Conditions.{leavesKey, leavesStiKey, mayNotMove};
+ghost use Rattle.calls.specs.Conditions.{leavesKey, looksAtF2, mayNotMove};
 use calls::count;
 use formats::entry;
 use formats::entry::EntryKind;
@@ -125,12 +126,12 @@ pub fn leaves_title_key(titles: &[u8], entry: EntryNumber, filler: u64) -> bool
     leaves_key(filler, title_half(titles, entry))
 }
 
-// Whether it would leave its STI key. A picture call does not ask.
-pub fn leaves_sti_key(pair: Pair, rules: &[u8], entry: EntryNumber, filler: u64) -> bool
-    ensures { λ r. ⌜ r ≡ leavesStiKey pair filler (ruleAt (now (rules .entry)) (entry .0)) ⌝ }
+// Whether a call of this pair refuses f2: an audio call does where f2 would leave an entry's STI key, a picture call never.
+pub fn refuses_f2(pair: Pair, rules: &[u8], entry: EntryNumber, f2: u64) -> bool
+    ensures { λ r. ⌜ r ≡ (looksAtF2 pair && leavesKey f2 (ruleAt (now (rules .entry)) (entry .0))) ⌝ }
 {
     match pair {
-        Pair::Audio => leaves_key(filler, rule_half(rules, entry)),
+        Pair::Audio => leaves_key(f2, rule_half(rules, entry)),
         Pair::Picture => false,
     }
 }

@@ -1,5 +1,5 @@
-// What a till written in C calls: formatting, the seven calls, the tally, and reading and writing requests, over its own buffers
-// and plain numbers. Formatting and the calls hand on what they are given, plain numbers as the types that the calls take. Tally,
+// What a till written in C calls: formatting, the seven calls, the tally, and reading and writing requests, over its own buffers,
+// plain numbers and a bool for the pair. Formatting and the calls hand on what they are given, as the types that the calls take. Tally,
 // reading and writing also put numbers into the places that they are lent, and writing tests the kind, which in C is any number.
 // include/music_counter.h has the same twelve in C.
 ghost use mathlib.Core.Path.{_≡_};

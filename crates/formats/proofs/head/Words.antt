@@ -107,9 +107,9 @@ module _ (t : List ℕ) (byte : Bytes t) (size : 16 ≤ length t) where
     v-inner : bitAnd (v / 2 ^ 16) 0xffffffff ≡ number (part t 10 2) * 2 ^ 16 + getD t 12 0 * 256 + getD t 13 0
     v-inner = ap (λ (x : ℕ). bitAnd (x / 2 ^ 16) 0xffffffff) v-is ∙ inner
 
-    pub titles-front : {pair : Pair} {right : ℕ} → right ≡ titlesIdentifier pair * 2 ^ 48 + 0x1000003e80 → TitlesHead pair t
+    pub titles-outer : {pair : Pair} {right : ℕ} → right ≡ titlesIdentifier pair * 2 ^ 48 + 0x1000003e80 → TitlesHead pair t
         → (bitAnd w 0xffff00ffffffffff ≡ right) ⊎ (bitAnd w 0xffff00ffffffffff ≡ right - 0x700000000)
-    titles-front is h =
+    titles-outer is h =
         ⊎-elim
         (λ e. inr (w-front ∙ omega (arith, is, h .table .names, h .table .sized, e)))
         (λ e. inl (w-front ∙ omega (arith, is, h .table .names, h .table .sized, e)))

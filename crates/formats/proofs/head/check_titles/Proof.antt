@@ -7,7 +7,7 @@ use denote.Ref.{now}
 use borrow.Author.Needs.{needs}
 use Rattle.formats.proofs.Tests.{passes}
 use Rattle.formats.proofs.head.Laws.{titles-pass, titles-refused}
-use Rattle.formats.proofs.head.Words.{titles-front, titles-back, titles-right}
+use Rattle.formats.proofs.head.Words.{titles-outer, titles-back, titles-right}
 use Rattle.formats.proofs.head.check_titles.Statement.{statement}
 use Rattle.formats.proofs.head.check_titles.Tie as tie
 
@@ -22,7 +22,7 @@ returns-2 c =
     titles-refused
     (λ h.
     ⊎-elim (c .before .if2 .taken) (c .if3 .taken)
-    (titles-front (now (known .before .args .titles)) (λ i. known .shared-slice-known .given i .fits) (omega arith) (read .read-at .ensures) refl (right .titles-front .ensures) h))
+    (titles-outer (now (known .before .args .titles)) (λ i. known .shared-slice-known .given i .fits) (omega arith) (read .read-at .ensures) refl (right .titles-front .ensures) h))
 
 returns-3 : tie.Need-returns-3
 returns-3 c =

@@ -77,14 +77,14 @@ returns-6 c =
     let key = c .before .before in
     let row = key .before .before in
     is-away row
-    (hit 16 _ _ (or-next (told (key .before .leaves-title-key2 .ensures) (key .if5 .left)) (and-next (full (row .before .before .before .before)) (told (c .before .leaves-sti-key .ensures) (c .if6 .taken)))))
+    (hit 16 _ _ (or-next (told (key .before .leaves-title-key2 .ensures) (key .if5 .left)) (and-next (full (row .before .before .before .before)) (told (c .before .refuses-f2 .ensures) (c .if6 .taken)))))
 
 returns-7 : tie.Need-returns-7
 returns-7 c =
     let key = c .before .before in
     let row = key .before .before in
     is-away row
-    (skip 16 _ _ _ (or-next (told (key .before .leaves-title-key2 .ensures) (key .if5 .left)) (and-next (full (row .before .before .before .before)) (told (c .before .leaves-sti-key .ensures) (c .if6 .left)))) end)
+    (skip 16 _ _ _ (or-next (told (key .before .leaves-title-key2 .ensures) (key .if5 .left)) (and-next (full (row .before .before .before .before)) (told (c .before .refuses-f2 .ensures) (c .if6 .left)))) end)
 
 pub state-spec : {M : Type 1} → statement M
 state-spec =

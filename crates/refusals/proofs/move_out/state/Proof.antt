@@ -71,13 +71,13 @@ returns-6 : tie.Need-returns-6
 returns-6 c =
     let key = c .before .before in
     same-hash (key .before .before)
-    (hit 16 _ _ (or-next (told (key .before .leaves-title-key .ensures) (key .if5 .left)) (told (c .before .leaves-sti-key .ensures) (c .if6 .taken))))
+    (hit 16 _ _ (or-next (told (key .before .leaves-title-key .ensures) (key .if5 .left)) (told (c .before .refuses-f2 .ensures) (c .if6 .taken))))
 
 returns-7 : tie.Need-returns-7
 returns-7 c =
     let key = c .before .before in
     same-hash (key .before .before)
-    (skip 16 _ _ _ (or-next (told (key .before .leaves-title-key .ensures) (key .if5 .left)) (told (c .before .leaves-sti-key .ensures) (c .if6 .left))) end)
+    (skip 16 _ _ _ (or-next (told (key .before .leaves-title-key .ensures) (key .if5 .left)) (told (c .before .refuses-f2 .ensures) (c .if6 .left))) end)
 
 pub state-spec : {M : Type 1} → statement M
 state-spec =
