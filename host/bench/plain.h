@@ -1,5 +1,5 @@
 /*
- * The counter's operations in plain C, written from document 01 for the benchmark: what the proved library is compared
+ * The counter's operations in plain C, written from documents 01 and 02 for the benchmark: what the proved library is compared
  * with. Each function takes, answers and leaves what its namesake in music_counter.h does.
  */
 #ifndef PLAIN_H

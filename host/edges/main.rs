@@ -1,5 +1,5 @@
-// Prints the cases of the test program `edges`, or the cases with their answers, worked out from document 01 alone; where a
-// part of bytes has another length than the paper gives it, from what docs/DECISIONS.md says of such parts.
+// Prints the cases of the test program `edges`, or the cases with their answers, worked out from documents 01 and 02
+// alone; where a part of bytes has another length than the paper gives it, from what docs/DECISIONS.md says of such parts.
 //
 // No code is shared with the library.
 

@@ -91,6 +91,7 @@ headNeeds pair b = 7 needs LedgerHead (b .ledger) ∷ 8 needs TitlesHead pair (b
 -- 5 move out (j, h, f1-f4): "entry full, its row away"; the entry's facts allow it, and h is the stored C_HASH
 -- 6 move in (c, j, h): "row here, entry free"; the row's facts allow it, and no copy of c is on the card
 -- 7 delete (j, f1-f4): a copy, "its row neither tested nor touched"; or a full entry, its row away
+-- "In picture calls condition 16 looks at f1 only.": what is asked of f2 is asked where the pair is audio
 abbrev pub needsOf : Pair → Request → Buffers → List Need
 needsOf pair (Register c f) b =
     4 needs Within 999 (c .0)
