@@ -3,7 +3,7 @@
 SHELL = bash
 .SHELLFLAGS = -o pipefail -ec
 .PHONY: demo test host-tests expected till constants compare soak programs requests references history sheet bench plot
-.PHONY: target/staticlib/libtill.a target/bin/counter target/bin/sheet
+.PHONY: target/staticlib/libtill.a target/bin/counter target/bin/sheet target/bin/edges
 
 demo: target/bin/counter
 	@$< < crates/counter/stdin
@@ -14,10 +14,12 @@ test:
 # What is tested outside Rattle, on the library and the programs that are proved.
 host-tests: expected till constants compare requests references programs
 
-# The cases that the test program reads and what it must print, worked out from the paper by a program of its own.
-expected: target/host/edges
+# The cases that the test program reads and what it must print, worked out from the paper by a program of its own; and those of the
+# closing sheet, which it is run on here.
+expected: target/host/edges target/bin/edges
 	target/host/edges cases | cmp - crates/edges/stdin
 	target/host/edges answers | cmp - crates/edges/stdout
+	target/host/edges sheet cases | target/bin/edges | cmp - <(target/host/edges sheet answers)
 
 target/host/edges: host/edges/main.rs $(wildcard host/edges/*.rs)
 	@mkdir -p target/host
@@ -94,7 +96,7 @@ references:
 target/staticlib/libtill.a:
 	@host/build.sh till
 
-target/bin/counter target/bin/sheet:
+target/bin/counter target/bin/sheet target/bin/edges:
 	@host/build.sh $(@F)
 
 # How fast the library is beside the same operations in plain C. The library is for any x86-64, and so is the plain C.

@@ -7,5 +7,10 @@ cd "$(dirname "$0")/.."
 said=$(mktemp)
 trap 'rm -f "$said"' EXIT
 rt ci | tee "$said"
+# rt ci passes where an edit no longer fits its file; here that counts as a failure.
+if grep -q '^rt: ok.* bad' "$said"; then
+    echo 'must-fail edits that do not fit their files' >&2
+    exit 1
+fi
 make --no-print-directory host-tests
 tail -n 1 "$said"

@@ -1,5 +1,6 @@
-// Prints the cases of the test program `edges`, or the cases with their answers, worked out from documents 01 and 02
-// alone; where a part of bytes has another length than the paper gives it, from what docs/DECISIONS.md says of such parts.
+// Prints the cases of the test program `edges`, or the cases with their answers; those of the closing sheet apart. They are worked
+// out from documents 01 and 02 alone; where a part of bytes has another length than the paper gives it, from what docs/DECISIONS.md
+// says of such parts.
 //
 // No code is shared with the library.
 
@@ -73,15 +74,23 @@ impl Case {
 }
 
 fn main() {
-    let word = std::env::args().nth(1);
-    match word.as_deref() {
-        Some("cases") => {}
-        Some("answers") => ANSWERS.store(true, Ordering::Relaxed),
+    let words: Vec<String> = std::env::args().skip(1).collect();
+    let words: Vec<&str> = words.iter().map(String::as_str).collect();
+    ANSWERS.store(words.contains(&"answers"), Ordering::Relaxed);
+    match words[..] {
+        ["cases"] | ["answers"] => layer_cases(),
+        ["sheet", "cases"] | ["sheet", "answers"] => {
+            text_cases();
+            sheet::cases();
+        }
         _ => {
-            eprintln!("usage: edges cases | edges answers");
+            eprintln!("usage: edges [sheet] cases | edges [sheet] answers");
             std::process::exit(2);
         }
     }
+}
+
+fn layer_cases() {
     number_cases();
     field_cases();
     half_cases();
@@ -92,8 +101,6 @@ fn main() {
     row_writers();
     remainder_cases();
     streams();
-    text_cases();
-    sheet::cases();
     no_cases();
 }
 

@@ -9,7 +9,7 @@ cd "$(dirname "$0")/../.."
 defined() {
     sed -nE 's@^checked \(([A-Za-z]+) .*\) = (.*) ∷ \[\]$@\1 \2@p' crates/calls/specs/Perform.antt |
         sed -E 's@([a-z])([A-Z])@\1_\2@; s@^[A-Za-z_]+@\L&@'
-    sed -nE 's@^.*RefusedFirst .* \((.*) ∷ \[\]\) \((ledger|card|tally)Conditions .*@\2 \1@p' crates/tables/specs/Demand1.antt |
+    sed -nE 's@^.*RefusedFirst .* \((.*) ∷ \[\]\) \((ledger|card|tally)_conditions .*@\2 \1@p' crates/tables/specs/Demand1.antt |
         sed -E 's@^(ledger|card)@format_\1@'
     sed -nE 's@^.*RefusedFirst .* \((.*) ∷ \[\]\) \(sheet_conditions .*@sheet \1@p' crates/closing_sheet/specs/Demand1.antt
 }

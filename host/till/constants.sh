@@ -75,7 +75,7 @@ longest_request() {
             bytes["Any"] = 10                                                                        # 2^64 - 1
         }
         function sum(text,    words, count, i, total) {
-            gsub(/[^A-Za-z]/, " ", text)
+            gsub(/[^A-Za-z_]/, " ", text)
             count = split(text, words, " ")
             for (i = 1; i <= count; i++) total += words[i] == "fact_arguments" ? facts : bytes[words[i]]
             return total

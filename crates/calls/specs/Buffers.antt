@@ -141,8 +141,8 @@ abbrev pub copy_of : ℕ → List ℕ → List ℕ → Bool
 copy_of c t r = is_copy (kind_of t r) && eqb (id_of t) c
 
 -- "a full entry with ID c"
-abbrev pub full_of : ℕ → List ℕ → List ℕ → Bool
-full_of c t r = is_full (kind_of t r) && eqb (id_of t) c
+abbrev pub full_with : ℕ → List ℕ → List ℕ → Bool
+full_with c t r = is_full (kind_of t r) && eqb (id_of t) c
 
 -- "the number of copies with ID c" on the card
 unfoldable pub copies : ℕ → List ℕ → List ℕ → ℕ

@@ -15,7 +15,7 @@ use Rattle.formats.specs.declared.row.RowState.{RowState}
 use Rattle.formats.specs.declared.row.RowState.TheVariants.{Empty, Here, Away, Gone, NoState}
 use Rattle.formats.specs.declared.entry.EntryKind.{EntryKind}
 use Rattle.formats.specs.Entry.{entry_facts}
-use Rattle.calls.specs.Buffers.{Buffers, state_at, kind_at, content_at, facts_at, is_empty, no_facts, Within, title_at, rule_at, full_of}
+use Rattle.calls.specs.Buffers.{Buffers, state_at, kind_at, content_at, facts_at, is_empty, no_facts, Within, title_at, rule_at, full_with}
 use Rattle.calls.specs.History.{Action, granted, checked_out, checked_in, moved, copy_deleted, holder_deleted, actions, times, grant, start, run}
 use Rattle.calls.proofs.First.{first_none, first_holds}
 use Rattle.calls.proofs.Views.{inside, view, place_by, full_entry, copies_seen}
@@ -86,7 +86,7 @@ first_has b c held =
     let y = holder_found 999 c (view b) held in
     let p = y.1.0 in
     let u = full_entry (kind_at b p) (content_at b p) (facts_at b p) c y.0 y.1.2 in
-    let t = λ (j : ℕ). full_of c (title_at b.titles j) (rule_at b.rules j) in
+    let t = λ (j : ℕ). full_with c (title_at b.titles j) (rule_at b.rules j) in
     let j = first_full c b.titles b.rules in
     let found : j ≢ 0 = λ z. true≢false (sym (holds_at b c p u.0 u.1) ∙ first_none t 999 z p y.1.1) in
     let (l, e) = first_holds t 999 found in

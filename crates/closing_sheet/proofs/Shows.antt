@@ -19,7 +19,7 @@ use Rattle.formats.specs.declared.entry.EntryKind.TheVariants.{Free, Copy, Full,
 use Rattle.formats.specs.Entry.{entry_facts}
 use Rattle.formats.proofs.Tests.{split, both, refuted}
 use Rattle.formats.proofs.head.Laws.{fresh_rows}
-use Rattle.calls.specs.Buffers.{Buffers, state_at, kind_at, content_at, is_empty, is_full, total, fresh, Within, title_at, rule_at, full_of}
+use Rattle.calls.specs.Buffers.{Buffers, state_at, kind_at, content_at, is_empty, is_full, total, fresh, Within, title_at, rule_at, full_with}
 use Rattle.calls.proofs.First.{first_holds, first_is}
 use Rattle.calls.proofs.Fresh.{fresh_empty}
 use Rattle.tables.specs.ByTitle.{first_full}
@@ -39,7 +39,7 @@ is_full_lem Torn e = absurd (true≢false (sym e))
 
 module _ (b : Buffers) (c : ℕ) where
   abbrev test : ℕ → Bool
-  test j = full_of c (title_at b.titles j) (rule_at b.rules j)
+  test j = full_with c (title_at b.titles j) (rule_at b.rules j)
 
   pub holds_at : (j : ℕ) → kind_at b j ≡ Full → content_at b j ≡ c → test j ≡ true
   holds_at j kind id = both (ap is_full kind) (eq-eqb (content_at b j) c id)

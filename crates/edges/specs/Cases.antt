@@ -47,12 +47,17 @@ leaves code v p =
     (cond (eqb code 0x1B) (replaced 24 (with_permits p v.one) p)
     (cond (eqb code 0x1C) (bytes_of (length p) v.one)
     (cond (eqb code 0x1D) (written_to (groups v.one) p)
-    (cond (eqb code 0x1E) (placed p v.one total_word)
     (cond (eqb code 0x28) (put p v.two (fitting p v.two (groups v.one)))
     (cond (eqb code 0x38) (replaced 16 (title_half v.one v.two v.three) p)
     (cond (eqb code 0x39) (changed_half (put p 0 (half_bytes (v.one % 256) v.two v.three)) p)
-    (cond (eqb code 0x3A) (placed p v.three (field v.one (v.two % 256)))
     (cond (eqb code 0x48) (replaced 32 (wiped_rule p (record { f1 = v.one; f2 = v.two; f3 = v.three; f4 = v.four })) p)
     (cond (eqb code 0x68) (replaced 24 (here_row (facts_from v)) p)
     (cond (eqb code 0x88) (replaced 32 (rule_half (facts_from v) v.seven v.eight) p)
-    p)))))))))))))
+    p)))))))))))
+
+-- what a case that writes in a text leaves of its part
+unfoldable pub leaves_in_text : ℕ → Numbers → List ℕ → List ℕ
+leaves_in_text code v p =
+    cond (eqb code 0x1E) (placed p v.one total_word)
+    (cond (eqb code 0x3A) (placed p v.three (field v.one (v.two % 256)))
+    p)

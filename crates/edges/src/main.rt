@@ -41,6 +41,7 @@
 
 mod print;
 mod readers;
+mod texts;
 mod writers;
 
 ghost use Rattle.std.specs.Prelude.{◌≡◌, ◌≤◌, length, replicate};
@@ -50,11 +51,11 @@ use crate::writers::Numbers;
 use formats::table;
 
 // Room for all lines.
-fn room() -> [u8; 327680]
-    ensures zeros { result ≡ replicate 327680 0 }
-    ensures size { 327680 ≡ length result }
+fn room() -> [u8; 262144]
+    ensures zeros { result ≡ replicate 262144 0 }
+    ensures size { 262144 ≡ length result }
 {
-    [0; 327680]
+    [0; 262144]
 }
 
 fn main() {
@@ -122,6 +123,7 @@ fn answer(case: [u8; 32100], n: usize)
     } else {
         let v = writers::numbers_of(&case);
         let mut part = case;
+        texts::write(code, v, &mut part[start..n]);
         run(code, v, &case, &mut part[start..n]);
     }
     print::end();

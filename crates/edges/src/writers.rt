@@ -7,7 +7,6 @@ use formats::facts::{ContentId, Facts, Fillers};
 use formats::{field, half, row, rule, title};
 use requests::number;
 use requests::number::Written;
-use text::{decimal, word};
 
 // The numbers of a case. Those that it does not have are bytes of its part.
 #[derive(Clone, Copy)]
@@ -62,13 +61,9 @@ pub fn write(code: u8, v: Numbers, part: &mut [u8])
         0x1b => row::write_permits(part, v.one),
         0x1c => field::write(part, v.one),
         0x1d => written(number::write(v.one, part)),
-        0x1e => print::number(word::write_at(b"total ", part, v.one as usize) as u64),
         0x28 => print::number(number::write_at(v.one, part, v.two as usize) as u64),
         0x38 => title::write(part, v.one, v.two, ContentId(v.three)),
         0x39 => half::write(part, field::low_byte(v.one), v.two, ContentId(v.three)),
-        0x3a => print::number(
-            decimal::write_at(v.one, field::low_byte(v.two), part, v.three as usize) as u64,
-        ),
         0x48 => rule::wipe(
             part,
             Fillers {

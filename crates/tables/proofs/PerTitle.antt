@@ -18,7 +18,7 @@ use Rattle.formats.specs.declared.entry.EntryKind.{EntryKind}
 use Rattle.formats.specs.declared.entry.EntryKind.TheVariants.{Free, Copy, Full, Torn}
 use Rattle.formats.proofs.Tests.{refuted}
 use Rattle.formats.proofs.entry.Laws.{Sound, same_kind, of_copy, of_full}
-use Rattle.calls.specs.Buffers.{title_at, rule_at, copies, full_of, first_of, one, total}
+use Rattle.calls.specs.Buffers.{title_at, rule_at, copies, full_with, first_of, one, total}
 use Rattle.calls.proofs.First.{first_before, first_here, first_not_yet}
 use Rattle.tables.specs.Copies.{copy_at}
 use Rattle.tables.specs.ByTitle.{first_full, is_wanted, title_in, ForEach}
@@ -180,7 +180,7 @@ module _ (titles rules : List ℕ) where
 
   -- the first full entries
   abbrev full_at : ℕ → ℕ → Bool
-  full_at c j = full_of c (title_at titles j) (rule_at rules j)
+  full_at c j = full_with c (title_at titles j) (rule_at rules j)
 
   pub record Found (k : ℕ) (entries : List ℕ) : Type 0 where
     pub few : k ≤ 999

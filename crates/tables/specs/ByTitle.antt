@@ -3,11 +3,11 @@ use Rattle.std.specs.Prelude.{ℕ, ◌≡◌, List, Bool, true, false, cond, len
 use Rattle.formats.specs.Half.{id_of}
 use Rattle.formats.specs.Entry.{kind_of}
 use Rattle.formats.specs.declared.entry.EntryKind.{EntryKind}
-use Rattle.calls.specs.Buffers.{title_at, rule_at, is_copy, is_full, full_of, first_of}
+use Rattle.calls.specs.Buffers.{title_at, rule_at, is_copy, is_full, full_with, first_of}
 
 -- the first full entry with ID c; 0 where there is none
 unfoldable pub first_full : ℕ → List ℕ → List ℕ → ℕ
-first_full c titles rules = first_of 999 (λ j. full_of c (title_at titles j) (rule_at rules j))
+first_full c titles rules = first_of 999 (λ j. full_with c (title_at titles j) (rule_at rules j))
 
 -- a thousand places, in which place c has the number of title c. There is no title 0, and none above 999: place 0 has 0, and 0 is
 -- read past the end
