@@ -25,9 +25,10 @@ target/host/edges: host/edges/main.rs $(wildcard host/edges/*.rs)
 	@mkdir -p target/host
 	rustc --edition 2021 -O -o $@ $<
 
-# The C interface: the example against its stored output, and a test of every function, with guards around its buffers.
-till: target/host/till target/host/till-test
+# The C interface: the examples against their stored outputs, and a test of every function, with guards around its buffers.
+till: target/host/till target/host/sheet target/host/till-test
 	target/host/till | cmp - examples/till.txt
+	target/host/sheet | cmp - examples/sheet.txt
 	target/host/till-test
 
 # The header's constants and texts are those of the source, one by one, and comments have the answers of the definitions.
@@ -38,7 +39,7 @@ constants:
 C = $(CC) -std=c11 -Wall -Wextra -pedantic -Werror -Iinclude
 GUARDS = -g -fsanitize=address,undefined -fno-sanitize-recover=all
 
-target/host/till: examples/till.c include/music_counter.h target/staticlib/libtill.a
+target/host/till target/host/sheet: target/host/%: examples/%.c include/music_counter.h target/staticlib/libtill.a
 	@mkdir -p target/host
 	$(C) -O2 -o $@ $< target/staticlib/libtill.a
 

@@ -1,6 +1,6 @@
 /*
  * One title's way through a till: registered, lent, returned, moved to the card and back, deleted. Beside it a picture, lent
- * and returned. Then a call as request bytes, written and read back; and when the shop closes, a sheet of each ledger and card.
+ * and returned. Then a call as request bytes, written and read back.
  */
 #include <inttypes.h>
 #include <stdio.h>
@@ -29,9 +29,6 @@ static uint8_t picture_rules[COUNTER_RULES_SIZE];
 #define PICTURE_TITLES picture_titles, sizeof picture_titles
 #define PICTURE_RULES picture_rules, sizeof picture_rules
 
-/* What keys are overwritten with; a till takes fresh random numbers. */
-static const uint64_t f1 = 0xf1a0a1a2a3a4a5a6, f2 = 0xf2b0b1b2b3b4b5b6, f3 = 0xf3c0c1c2c3c4c5c6, f4 = 0xf4d0d1d2d3d4d5d6;
-
 static void show(const char *step, uint64_t answer)
 {
     printf("%-44s %2" PRIu64 "  %s\n", step, answer, counter_text(answer));
@@ -48,7 +45,7 @@ static void show_copies(bool pair, const uint8_t *t, size_t t_len, const uint8_t
 }
 
 /* The same functions serve pictures; the pair says which tables they are lent, and other tables are refused. */
-static void lend_a_picture(void)
+static void lend_a_picture(uint64_t f1)
 {
     /* Picture 1: no more generations, no moves, loans without a limit. Its STI key is a random number of the module. */
     const uint64_t picture = 1, cci = 3, trigger = 0, rights = 0, permits = COUNTER_UNLIMITED;
@@ -84,38 +81,13 @@ static void show_request(uint64_t kind, const uint64_t arguments[COUNTER_ARGUMEN
     printf("    kind %" PRIu64 ", content %" PRIu64 ", entry %" PRIu64 ", from %zu bytes\n", read_kind, read[0], read[1], again);
 }
 
-/* Row, state, permits, rights and copies of each title, and the totals of permits and copies: text that is printed as it is. */
-static void print_sheet(bool pair, const uint8_t *l, size_t l_len, const uint8_t *t, size_t t_len, const uint8_t *r,
-                        size_t r_len)
-{
-    uint8_t text[COUNTER_SHEET_SIZE];
-    size_t used = 0;
-
-    show(pair == COUNTER_AUDIO ? "closing sheet" : "closing sheet of the pictures",
-         counter_sheet(pair, l, l_len, t, t_len, r, r_len, text, sizeof text, &used));
-    fwrite(text, 1, used, stdout);
-}
-
-/* Of title 2's three permits one is left, one is lent, and one went with a copy that was deleted on the card. */
-static void close_the_shop(void)
-{
-    const uint64_t title = 2, cci = 0, trigger = 0, rights = COUNTER_UNLIMITED, permits = 3;
-    const uint64_t title_key = 0x31415926535897, sti_key = 0x27182818284590;
-
-    show("register title 2",
-         counter_register(LEDGER, title, cci, trigger, rights, permits, title_key, sti_key));
-    show("check out title 2 to entry 7", counter_check_out(COUNTER_AUDIO, LEDGER, TITLES, RULES, title, 7));
-    show("check out title 2 to entry 8", counter_check_out(COUNTER_AUDIO, LEDGER, TITLES, RULES, title, 8));
-    show("delete entry 8", counter_delete(COUNTER_AUDIO, LEDGER, TITLES, RULES, 8, f1, f2, f3, f4));
-    print_sheet(COUNTER_AUDIO, LEDGER, TITLES, RULES);
-    print_sheet(COUNTER_PICTURE, PICTURE_LEDGER, PICTURE_TITLES, PICTURE_RULES);
-}
-
 int main(void)
 {
     /* Title 1: one generation, three moves, one copy at a time. The card's secure module supplies keys and hash. */
     const uint64_t title = 1, cci = 2, trigger = 0, rights = 3, permits = 1;
     const uint64_t title_key = 0x11223344556677, sti_key = 0x8899aabbccddee, hash = 0x0123456789abcdef;
+    /* What keys are overwritten with; a till takes fresh random numbers. */
+    const uint64_t f1 = 0xf1a0a1a2a3a4a5a6, f2 = 0xf2b0b1b2b3b4b5b6, f3 = 0xf3c0c1c2c3c4c5c6, f4 = 0xf4d0d1d2d3d4d5d6;
 
     show("format a ledger", counter_format_ledger(LEDGER, ROWS, APPLICATION));
     show("format a card", counter_format_card(COUNTER_AUDIO, TITLES, RULES, APPLICATION));
@@ -142,11 +114,9 @@ int main(void)
     show("register title 1 again",
          counter_register(LEDGER, title, cci, trigger, rights, permits, title_key, sti_key));
 
-    lend_a_picture();
+    lend_a_picture(f1);
 
     /* check-out of title 5 to entry 999; the places after a kind's arguments count for nothing */
     show_request(3, (const uint64_t[COUNTER_ARGUMENTS]){5, 999});
-
-    close_the_shop();
     return 0;
 }

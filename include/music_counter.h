@@ -104,7 +104,7 @@ extern "C" {
 /* The answers. 1 to 3 are about bytes read and written; only the functions on requests have them, and the sheet 1. */
 enum {
     COUNTER_DONE = 0,           /* done */
-    COUNTER_TOO_SHORT = 1,      /* request bytes end too early, or too little room for what is written */
+    COUNTER_TOO_SHORT = 1,      /* request bytes end too early, or too little room for them */
     COUNTER_NUMBER = 2,         /* a number that is not in its shortest form or too large */
     COUNTER_KIND = 3,           /* no such kind of request */
     COUNTER_CONTENT_ID = 4,     /* content ID (in formatting: rows) not 1 to 999 */
@@ -127,7 +127,7 @@ static inline const char *counter_text(uint64_t number)
 {
     switch (number) {
     case COUNTER_DONE: return "done";
-    case COUNTER_TOO_SHORT: return "request bytes end too early, or too little room for what is written";
+    case COUNTER_TOO_SHORT: return "request bytes end too early, or too little room for them";
     case COUNTER_NUMBER: return "a number that is not in its shortest form or too large";
     case COUNTER_KIND: return "no such kind of request";
     case COUNTER_CONTENT_ID: return "content ID (in formatting: rows) not 1 to 999";

@@ -30,7 +30,8 @@ MADE = re.compile(r"(?<![\w'-])(?:goal|c|w)\.([a-z_][\w'-]*)")
 BY_HAND = {
     **{"nineFF": "nine_ff", "otherThan15": "other_than_15", "titleKey": "title_key_at", "stiKey": "sti_key_at"},
     **{"title-half": "title_half", "rule-half": "rule_half", "permits-total": "permits_total", "copies-total": "copies_total"},
-    **{"every-call": "every_call", "other-pair": "of_other_pair"},
+    **{"every-call": "every_call", "other-pair": "of_other_pair", "wiped-rule": "wiped_rule"},
+    **{"a-copy": "deletes_copy", "a-holder": "deletes_holder"},
 }
 # Words of the documents that are English or an argument of a program, and no names here.
 ENGLISH = {"check-outs", "title-key", "sti-key"}

@@ -257,7 +257,7 @@ check 'past limits, and a fault' 1 bytes lines.txt --past-limits < /dev/null
 
 # ---------------------------------------------------------------- bytes at fault
 
-short='refusal 1, request bytes end too early, or too little room for what is written'
+short='refusal 1, request bytes end too early, or too little room for them'
 form='refusal 2, a number that is not in its shortest form or too large'
 content='refusal 4, content ID (in formatting: rows) not 1 to 999'
 entry='refusal 5, entry number not 1 to 999'

@@ -46,7 +46,7 @@ use Rattle.calls.specs.Untouched.{row_written}
 use Rattle.calls.specs.Work.{RowIs, Recounted, PermitsBecome, FullEntry, TitleWiped, RuleWiped, Left, WorkIsDone, RegisterByLedger, GoneStays}
 use Rattle.calls.proofs.Counts.{less_most, more_most}
 use Rattle.calls.proofs.Refusals.{carried_out, unchanged}
-use Rattle.calls.proofs.Named.{Deletable, a_copy_lem, a_holder, Named, named}
+use Rattle.calls.proofs.Named.{Deletable, deletes_copy, deletes_holder, Named, named}
 use Rattle.calls.proofs.Passed.{to_ranges, answered, needs_met, OnCard, on_card, its_row, row_in}
 use Rattle.calls.proofs.Slots.{slot_same, slots_kept}
 use Rattle.calls.proofs.Views.{IsRow, state_of_row, row_inside, row_length, row_reads, row_else, entry_length, entry_same}
@@ -165,7 +165,7 @@ module _ (b : Buffers) (j : ℕ) (o : OnCard b j) where
       let e = rule_is (wiped_rule r f) (wiped_rule_long b j o f) in
       record {
         rule_half = e;
-        overwritten = ap (λ (h : List ℕ). part h 0 8) e ∙ (layout.halves.wiped_rule_lem r f (rule_long b j o)).bytes_0_7;
+        overwritten = ap (λ (h : List ℕ). part h 0 8) e ∙ (layout.halves.wiped_rule r f (rule_long b j o)).bytes_0_7;
         key_gone = λ audio same. wiped_key_gone (rule_wiped r f (rule_long b j o)) (other audio) (ap key_of (sym e) ∙ same);
       }
 
@@ -275,8 +275,8 @@ module _ (pair : Pair) (b : Buffers) (are_bytes : AreBytes b) where
             record { free = free_copy b j.0 o f.f1 k; title = title_wiped b j.0 o f.f1 _ _ n.title_key; ledger = refl; rules = refl };
         of_full = λ k.
             elim n.deletable [
-              | a_copy_lem copy ↦ let z : ◌≡◌ {A = ℕ} 0 1 = cc in absurd (omega arith)
-              | a_holder full away key ↦
+              | deletes_copy copy ↦ let z : ◌≡◌ {A = ℕ} 0 1 = cc in absurd (omega arith)
+              | deletes_holder full away key ↦
                   rw (ap is_full k)
                   record {
                     row = row_is b.ledger c (row_in b c Away refl n.heads.ledger away) _ (plain_length _) _ _ Gone state_plain_gone;
@@ -333,8 +333,8 @@ not_gone pair (Delete j f) b n d gone e = by n.deletable
     row k = cond (is_full k) (some (content_at b j.0)) none
 
     by : Deletable pair j.0 f b → ⊥
-    by (a_copy_lem k) = let was : row (kind_at b j.0) ≡ none = ap row k in let z : ◌≡◌ {A = ℕ} 0 1 = cc in omega arith
-    by (a_holder k away key) = let was : row (kind_at b j.0) ≡ some (content_at b j.0) = ap row k in let z : ◌≡◌ {A = ℕ} 0 1 = cc in omega arith
+    by (deletes_copy k) = let was : row (kind_at b j.0) ≡ none = ap row k in let z : ◌≡◌ {A = ℕ} 0 1 = cc in omega arith
+    by (deletes_holder k away key) = let was : row (kind_at b j.0) ≡ some (content_at b j.0) = ap row k in let z : ◌≡◌ {A = ℕ} 0 1 = cc in omega arith
 
 pub gone_stays : GoneStays
 gone_stays pair k b c gone =

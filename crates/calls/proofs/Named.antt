@@ -72,8 +72,8 @@ pub record MoveInNeeds (pair : Pair) (c j : ℕ) (b : Buffers) : Type 0 where
   pub no_copy : NoCopy b c
 
 pub data Deletable (pair : Pair) (j : ℕ) (f : Fillers) (b : Buffers) : Type 0 where
-  a_copy_lem : kind_at b j ≡ Copy → Deletable pair j f b
-  a_holder : kind_at b j ≡ Full → state_at b (content_at b j) ≡ Away → (pair ≡ Audio → WipesStiKey b j f.f2) → Deletable pair j f b
+  deletes_copy : kind_at b j ≡ Copy → Deletable pair j f b
+  deletes_holder : kind_at b j ≡ Full → state_at b (content_at b j) ≡ Away → (pair ≡ Audio → WipesStiKey b j f.f2) → Deletable pair j f b
 
 pub record DeleteNeeds (pair : Pair) (j : ℕ) (f : Fillers) (b : Buffers) : Type 0 where
   pub entry : Within 999 j
@@ -123,7 +123,7 @@ named pair (Delete j f) b (entry, (ledger, (titles, (rules, (kind, (away, (keys,
     record {
       entry = entry;
       heads = record { ledger = ledger; titles = titles; rules = rules };
-      deletable = elim kind [ inl copy ↦ a_copy_lem copy | inr full ↦ a_holder full (away full) (keys.1 full) ];
+      deletable = elim kind [ inl copy ↦ deletes_copy copy | inr full ↦ deletes_holder full (away full) (keys.1 full) ];
       title_key = keys.0;
     }
 
@@ -133,16 +133,16 @@ module _ (pair : Pair) (b : Buffers) (j : ℕ) (f : Fillers) where
   not_both copy full = let z : ◌≡◌ {A = ℕ} 0 1 = cc in absurd (omega arith)
 
   kind_of_lem : Deletable pair j f b → (kind_at b j ≡ Copy) ⊎ (kind_at b j ≡ Full)
-  kind_of_lem (a_copy_lem copy) = inl copy
-  kind_of_lem (a_holder full away key) = inr full
+  kind_of_lem (deletes_copy copy) = inl copy
+  kind_of_lem (deletes_holder full away key) = inr full
 
   away_if : Deletable pair j f b → kind_at b j ≡ Full → state_at b (content_at b j) ≡ Away
-  away_if (a_copy_lem copy) = not_both copy
-  away_if (a_holder full away key) = λ e. away
+  away_if (deletes_copy copy) = not_both copy
+  away_if (deletes_holder full away key) = λ e. away
 
   key_if : Deletable pair j f b → kind_at b j ≡ Full → pair ≡ Audio → WipesStiKey b j f.f2
-  key_if (a_copy_lem copy) = not_both copy
-  key_if (a_holder full away key) = λ e. key
+  key_if (deletes_copy copy) = not_both copy
+  key_if (deletes_holder full away key) = λ e. key
 
 pub unnamed : (pair : Pair) (k : Request) (b : Buffers) → Named pair k b → Needs pair k b
 unnamed pair (Register c f) b n = (n.content, (n.facts, (n.ledger, (n.empty, tt))))

@@ -25,7 +25,7 @@ use Rattle.calls.specs.Work.{RowIs, Recounted, PermitsBecome, FullEntry}
 use Rattle.calls.specs.Examples.{check_out}
 use Rattle.calls.specs.SampleRun.{sample_facts, two_moves, registration, check_in, move_in, recording, move_out, deletion, SampleRun, EveryCallDone}
 use Rattle.calls.proofs.Refusals.{unchanged}
-use Rattle.calls.proofs.Named.{HeadsPass, a_copy_lem, a_holder, unnamed}
+use Rattle.calls.proofs.Named.{HeadsPass, deletes_copy, deletes_holder, unnamed}
 use Rattle.calls.proofs.Passed.{found}
 use Rattle.calls.proofs.Views.{row_else, kind_else}
 use Rattle.calls.proofs.Untouched.{untouched, rule_with_title, heads_kept}
@@ -337,7 +337,7 @@ copy_deleted_lem pair b s =
     let i = s.standing in
     let n : Needs pair k b =
     unnamed pair k b
-    (record { entry = seven; heads = i.tables.heads; deletable = a_copy_lem s.copy; title_key = λ e. let z : ◌≡◌ {A = ℕ} 9 5 = e ∙ s.key in omega arith }) in
+    (record { entry = seven; heads = i.tables.heads; deletable = deletes_copy s.copy; title_key = λ e. let z : ◌≡◌ {A = ℕ} 9 5 = e ∙ s.key in omega arith }) in
     let w = work_is_done pair k b in
     let l = (w.leaves i.tables.bytes n).of_copy s.copy in
     record {
@@ -390,16 +390,16 @@ holder_deleted_lem pair b s =
     (record {
       entry = nine;
       heads = s.heads;
-      deletable = a_holder s.full (rw s.id s.away) (λ audio e. let z : ◌≡◌ {A = ℕ} 9 6 = e ∙ s.sti_key in omega arith);
+      deletable = deletes_holder s.full (rw s.id s.away) (λ audio e. let z : ◌≡◌ {A = ℕ} 9 6 = e ∙ s.sti_key in omega arith);
       title_key = λ e. let z : ◌≡◌ {A = ℕ} 9 5 = e ∙ s.title_key in omega arith;
     }))
 
 -- REFUSED
 
 -- a need that is met, and then another; the one that is not met
-infixr 20 ◌met-then◌
-◌met-then◌ : {A B C : Type 0} → A → B → C ⊎ (A × B)
-p met-then rest = inr (p, rest)
+infixr 20 ◌met_then◌
+◌met_then◌ : {A B C : Type 0} → A → B → C ⊎ (A × B)
+p met_then rest = inr (p, rest)
 
 unmet : {A C : Type 0} {n : ℕ} → (A → ⊥) → ((A → ⊥) × (n ≡ n)) ⊎ C
 unmet h = inl (h, refl)
@@ -410,8 +410,8 @@ move_in_refused pair b s =
     let i = s.standing in
     let p = i.tables.heads in
     (work_is_done pair move_in b).answered.refused 14
-    (one met-then nine met-then p.ledger met-then p.titles met-then p.rules met-then i.tables.free 9 nine (λ e. omega arith)
-    met-then i.here met-then may_move_1 i.facts met-then unmet (λ none. none 7 seven s.copy s.id))
+    (one met_then nine met_then p.ledger met_then p.titles met_then p.rules met_then i.tables.free 9 nine (λ e. omega arith)
+    met_then i.here met_then may_move_1 i.facts met_then unmet (λ none. none 7 seven s.copy s.id))
 
 -- 3 check-out, with no permit left
 check_out_refused : (pair : Pair) (b : Buffers) → Lent pair b → (perform pair (check_out 1 8) b).answer ≡ 12
@@ -419,8 +419,8 @@ check_out_refused pair b s =
     let i = s.standing in
     let p = i.tables.heads in
     (work_is_done pair (check_out 1 8) b).answered.refused 12
-    (one met-then eight met-then p.ledger met-then p.titles met-then p.rules met-then i.tables.free 8 eight (λ e. omega arith)
-    met-then i.here met-then unmet (λ left. left i.facts.permits_are))
+    (one met_then eight met_then p.ledger met_then p.titles met_then p.rules met_then i.tables.free 8 eight (λ e. omega arith)
+    met_then i.here met_then unmet (λ left. left i.facts.permits_are))
 
 -- THE RUNS
 

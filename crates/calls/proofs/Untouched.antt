@@ -28,7 +28,7 @@ use Rattle.calls.specs.Effect.{after_move, effect}
 use Rattle.calls.specs.Perform.{perform}
 use Rattle.calls.specs.Untouched.{title_written, rule_written, SlotsKept, Untouched}
 use Rattle.calls.proofs.Refusals.{either_way, call_refused_first}
-use Rattle.calls.proofs.Named.{HeadsPass, a_copy_lem, a_holder, Named}
+use Rattle.calls.proofs.Named.{HeadsPass, deletes_copy, deletes_holder, Named}
 use Rattle.calls.proofs.Passed.{needs_where, OnCard, on_card, its_row, row_in}
 use Rattle.calls.proofs.Slots.{slots_kept, all_kept}
 use Rattle.calls.proofs.Views.{IsRow, row_inside, row_length, entry_length, entries_kept}
@@ -111,8 +111,8 @@ module _ (pair : Pair) (b : Buffers) where
       let c = content_at b j.0 in
       let title = title_kept j.0 _ o (wiped_title_long b j.0 o f.f1) in
       elim n.deletable [
-        | a_copy_lem k ↦ record { rows = rw (ap is_full k) (all_kept 24 none b.ledger); titles = rw (ap is_full k) title; rules = rw (ap is_full k) (all_kept 32 none b.rules) }
-        | a_holder k away key ↦
+        | deletes_copy k ↦ record { rows = rw (ap is_full k) (all_kept 24 none b.ledger); titles = rw (ap is_full k) title; rules = rw (ap is_full k) (all_kept 32 none b.rules) }
+        | deletes_holder k away key ↦
             record {
               rows = rw (ap is_full k) (row_kept c _ (row_in b c Away refl n.heads.ledger away) (plain_length _));
               titles = rw (ap is_full k) title;

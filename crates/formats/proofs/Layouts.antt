@@ -100,7 +100,7 @@ written_rule f hash id t r p small =
     }
 
 halves : Halves
-halves = record { wiped_title = wiped_title; wiped_rule_lem = wiped_rule_lem; written_title = written_title; written_rule = written_rule }
+halves = record { wiped_title = wiped_title; wiped_rule = wiped_rule_lem; written_title = written_title; written_rule = written_rule }
 
 heads : Heads
 heads =

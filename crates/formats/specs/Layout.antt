@@ -226,7 +226,7 @@ pub record FreshCard (letter version size application width mark : ℕ) (t : Lis
 -- what is wiped and written, for all halves of the right length and all numbers that their fields have room for
 pub record Halves : Type 0 where
   pub wiped_title : (t : List ℕ) (f1 : ℕ) → length t ≡ 16 → WipedTitle t f1 (wiped t f1)
-  pub wiped_rule_lem : (r : List ℕ) (f : Fillers) → length r ≡ 32 → WipedRule r f (wiped_rule r f)
+  pub wiped_rule : (r : List ℕ) (f : Fillers) → length r ≡ 32 → WipedRule r f (wiped_rule r f)
   pub written_title : (cci key id : ℕ) → cci < 4 → id < 1024 → WrittenTitle cci key id (title_half cci key id)
   pub written_rule : (f : Facts) (hash id : ℕ) → f.trigger ≤ 1 → f.rights ≤ 15 → f.permits ≤ 15 → id < 1024
       → WrittenRule f hash id (rule_half f hash id)

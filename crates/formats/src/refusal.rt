@@ -1,6 +1,6 @@
 // The numbers of the refusals that more than one layer knows: of requests, arguments and heads. A call that is done answers 0.
 
-// Request bytes end too early, or too little room for what is written.
+// Request bytes end too early, or too little room for them.
 pub const TOO_SHORT: u64 = 1;
 // A number that is not in its shortest form or too large.
 pub const NUMBER: u64 = 2;

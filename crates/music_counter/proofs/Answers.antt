@@ -15,7 +15,7 @@ use Rattle.formats.specs.declared.row.RowState.TheVariants.{Away}
 use Rattle.calls.specs.Buffers.{Buffers, kind_at, content_at, is_full}
 use Rattle.calls.specs.Effect.{effect}
 use Rattle.calls.specs.Perform.{refusal, perform}
-use Rattle.calls.proofs.Named.{Deletable, a_copy_lem, a_holder, Named}
+use Rattle.calls.proofs.Named.{Deletable, deletes_copy, deletes_holder, Named}
 use Rattle.calls.proofs.Passed.{needs_met, OnCard, on_card, row_in, its_row}
 use Rattle.calls.proofs.Views.{row_inside, entry_inside}
 use Rattle.music_counter.specs.Answer.{Answers, SlotInside, Inside}
@@ -40,8 +40,8 @@ module _ (b : Buffers) (j : ℕ) (on : OnCard b j) where
 
   -- the row of a full entry that is deleted
   deleted_row : {pair : Pair} {f : Fillers} → Deletable pair j f b → is_full (kind_at b j) ≡ true → SlotInside 24 (some (content_at b j)) b.ledger
-  deleted_row (a_copy_lem e) full = absurd (true≢false (sym full ∙ ap is_full e))
-  deleted_row (a_holder e away key) full = row_inside b.ledger (content_at b j) (row_in b (content_at b j) Away refl on.head away)
+  deleted_row (deletes_copy e) full = absurd (true≢false (sym full ∙ ap is_full e))
+  deleted_row (deletes_holder e away key) full = row_inside b.ledger (content_at b j) (row_in b (content_at b j) Away refl on.head away)
 
 places : (pair : Pair) (k : Request) (b : Buffers) → Named pair k b → Inside k b
 places pair (Register c f) b n = record { row = row_inside _ _ (its_row pair (Register c f) b n); title = tt; rule = tt }

@@ -35,7 +35,8 @@ pub fn check_in(
         (buffers_of ledger.new titles.new rules.now) }
 {
     let w = refusals::check_in::refusal(pair, ledger, titles, rules, entry, f1);
-    if w != 0 {
+    let is_refused = w != 0;
+    if is_refused {
         return w;
     }
     apply(ledger, titles, entry, f1);

@@ -25,7 +25,7 @@ use Rattle.calls.specs.Perform.{perform, AreBytes}
 use Rattle.calls.specs.Untouched.{row_written, title_written}
 use Rattle.calls.specs.Work.{Recounted, Left}
 use Rattle.calls.specs.History.{Log, a_copy, the_holder, puts, last_at, Action, granted, checked_out, checked_in, moved, copy_deleted, holder_deleted, event}
-use Rattle.calls.proofs.Named.{a_copy_lem, a_holder, Named, unnamed}
+use Rattle.calls.proofs.Named.{deletes_copy, deletes_holder, Named, unnamed}
 use Rattle.calls.proofs.Passed.{none_counts, OnCard, on_card}
 use Rattle.calls.proofs.Views.{place_by, place_of, view, row_else, place_else, copies_seen}
 use Rattle.calls.proofs.Untouched.{untouched, rule_with_title}
@@ -150,11 +150,11 @@ module _ (pair : Pair) (log : Log) (b : Buffers) (inv : Invariant 999 log (view 
       let l = left k n in
       let other : (d : ℕ) → d ≢ content_at b j.0 → row_written k b ≢ some d = λ d ne. other_deleted (is_full (kind_at b j.0)) ne in
       elim n.deletable [
-        | a_copy_lem copy ↦
+        | deletes_copy copy ↦
             let it = l.of_copy copy in
             wrote k copy_deleted (on_card pair k b n) (rw it.ledger) (place_is (after k) j.0 it.free) other refl (rw (placed_copy j.0 n.entry copy))
             (step_at step_delete_copy refl (place_is b j.0 copy) refl refl) tt (λ i ne. refl)
-        | a_holder full away key ↦
+        | deletes_holder full away key ↦
             let it = l.of_full full in
             wrote k holder_deleted (on_card pair k b n) it.row.reads (place_is (after k) j.0 it.free) other refl (rw (placed_full j.0 n.entry full))
             (step_at step_delete_holder away (place_is b j.0 full) refl refl) tt (λ i ne. refl)

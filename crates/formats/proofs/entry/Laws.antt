@@ -71,22 +71,22 @@ module _ (t r : List ℕ) where
     unfolding kind_of
     torn_cci one = simp (t-yes, eq-eqb (cci_of t) 1 one, torn_last)
 
-    module _ (in_range_lem : id_of t ≤ 999) (not_one : cci_of t ≡ 1 → ⊥) where
+    module _ (in_limits : id_of t ≤ 999) (not_one : cci_of t ≡ 1 → ⊥) where
       -- a sound title half beside a rule half that is not usable
       pub copy_beside : usable_of r ≡ false → kind_of t r ≡ Copy
       unfolding kind_of
-      copy_beside r-no = simp (t-yes, r-no, le-ltb 999 (id_of t) in_range_lem, ne_eqb (cci_of t) 1 not_one)
+      copy_beside r-no = simp (t-yes, r-no, le-ltb 999 (id_of t) in_limits, ne_eqb (cci_of t) 1 not_one)
 
       -- beside a usable rule half with its ID
       pub full_beside : usable_of r ≡ true → id_of t ≡ id_of r → kind_of t r ≡ Full
       unfolding kind_of
       full_beside r-yes same =
-          simp (t-yes, r-yes, le-ltb 999 (id_of t) in_range_lem, ne_eqb (cci_of t) 1 not_one, le-ltb 999 (id_of r) (omega arith), eq-eqb (id_of t) (id_of r) same)
+          simp (t-yes, r-yes, le-ltb 999 (id_of t) in_limits, ne_eqb (cci_of t) 1 not_one, le-ltb 999 (id_of r) (omega arith), eq-eqb (id_of t) (id_of r) same)
 
       -- and beside one with another ID
       pub torn_ids : usable_of r ≡ true → (id_of t ≡ id_of r → ⊥) → kind_of t r ≡ Torn
       unfolding kind_of
-      torn_ids r-yes other = simp (t-yes, r-yes, le-ltb 999 (id_of t) in_range_lem, ne_eqb (cci_of t) 1 not_one, ne_eqb (id_of t) (id_of r) other, torn_anyway)
+      torn_ids r-yes other = simp (t-yes, r-yes, le-ltb 999 (id_of t) in_limits, ne_eqb (cci_of t) 1 not_one, ne_eqb (id_of t) (id_of r) other, torn_anyway)
 
 -- an entry of zeros is free
 pub kind_zeros : kind_of (replicate 16 0) (replicate 32 0) ≡ Free

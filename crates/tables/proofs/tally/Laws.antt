@@ -34,21 +34,21 @@ module _ (pair : Pair) (t r : List ℕ) (c : ℕ) where
   unfolding tally_refusal
   content_refused h = by (fails 4 (numbered c) _ h) (λ z. omega arith)
 
-  module _ (in_range_lem : numbered c ≡ true) where
+  module _ (in_limits : numbered c ≡ true) where
     -- the title table's length or head is wrong
     pub titles_refused : {w : ℕ} → w ≡ titles_answer pair t → (w ≡ 0 → ⊥) → refused w ≡ tallied pair t r c
     unfolding tally_refusal
-    titles_refused e h = by (holds 4 (numbered c) _ in_range_lem (answers 8 (titles_pass pair t) _ e h)) h
+    titles_refused e h = by (holds 4 (numbered c) _ in_limits (answers 8 (titles_pass pair t) _ e h)) h
 
-    module _ (titles_pass_lem : titles_pass pair t ≡ true) where
+    module _ (titles_right : titles_pass pair t ≡ true) where
       -- the rule table's length or head is wrong
       pub rules_refused : {w : ℕ} → w ≡ rules_answer pair r → (w ≡ 0 → ⊥) → refused w ≡ tallied pair t r c
       unfolding tally_refusal
-      rules_refused e h = by (holds 4 (numbered c) _ in_range_lem (holds 8 (titles_pass pair t) _ titles_pass_lem (answers 9 (rules_pass pair r) _ e h))) h
+      rules_refused e h = by (holds 4 (numbered c) _ in_limits (holds 8 (titles_pass pair t) _ titles_right (answers 9 (rules_pass pair r) _ e h))) h
 
       -- nothing refuses
       pub counted : {n : ℕ} → rules_pass pair r ≡ true → n ≡ copies c t r → done (n ∷ []) ≡ tallied pair t r c
       unfolding tally_refusal tallied
-      counted rules_pass_lem e =
-          let z = holds 4 (numbered c) _ in_range_lem (holds 8 (titles_pass pair t) _ titles_pass_lem (holds 9 (rules_pass pair r) _ rules_pass_lem end)) in
+      counted rules_right e =
+          let z = holds 4 (numbered c) _ in_limits (holds 8 (titles_pass pair t) _ titles_right (holds 9 (rules_pass pair r) _ rules_right end)) in
           ap (λ (k : ℕ). done (k ∷ [])) e ∙ simp (eq-eqb (tally_refusal pair t r c) 0 (sym z))
