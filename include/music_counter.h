@@ -273,7 +273,8 @@ uint64_t counter_tally(bool pair, const uint8_t *titles, size_t titles_len, cons
 /*
  * Writes the closing sheet of a ledger and a card at the front of text.
  *
- * Answers 7, 8, 9; 1 where text_len is less than the sheet needs, which is at most COUNTER_SHEET_SIZE.
+ * Answers 7, 8, 9; 1 where text_len is less than the sheet needs, which is at most COUNTER_SHEET_SIZE. (The text of 1 speaks
+ * of request bytes; here it is too little room for the sheet.)
  * Done: *used is the count of bytes written, and no byte after them changes. On a refusal it keeps its value. Ledger and
  * tables are only read.
  */

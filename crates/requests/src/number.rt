@@ -39,7 +39,8 @@ pub fn read(s: &[u8]) -> NumberRead
         }
         if b < 128 {
             if b == 0 {
-                if 0 < i {
+                let is_longer = 0 < i;
+                if is_longer {
                     return NumberRead::Refused(refusal::NUMBER);
                 }
             }

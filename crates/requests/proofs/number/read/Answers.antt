@@ -4,7 +4,7 @@ use Rattle.std.proofs.Common.{ap, arith}
 use Rattle.requests.specs.Number.{number_answer}
 use Rattle.requests.proofs.number.Reading.{end, tenth, tenth_not, last_zero, only, last, next}
 use Rattle.requests.proofs.number.read.Goals as goal
-use Rattle.requests.proofs.number.read.Goals.{then-b-eq0+else-i-gt0, else-b-eq0}
+use Rattle.requests.proofs.number.read.Goals.{then-b-eq0+else-is_longer, else-b-eq0}
 
 pub returns-then-b-eq1 : goal.returns-then-b-eq1
 returns-then-b-eq1 c = ap number_answer (tenth c.loop-i.invariant c.loop-i-test.true c.if-i-eq9.true c.if-b-eq1.true)
@@ -12,14 +12,14 @@ returns-then-b-eq1 c = ap number_answer (tenth c.loop-i.invariant c.loop-i-test.
 pub returns-then-i-eq9 : goal.returns-then-i-eq9
 returns-then-i-eq9 c = ap number_answer (tenth_not c.loop-i.invariant c.loop-i-test.true c.if-i-eq9.true c.if-b-eq1.false)
 
-pub returns-then-i-gt0 : goal.returns-then-i-gt0
-returns-then-i-gt0 c = ap number_answer (last_zero c.loop-i.invariant c.loop-i-test.true c.if-i-eq9.false c.if-b-eq0.true c.if-i-gt0.true)
+pub returns-then-is_longer : goal.returns-then-is_longer
+returns-then-is_longer c = ap number_answer (last_zero c.loop-i.invariant c.loop-i-test.true c.if-i-eq9.false c.if-b-eq0.true c.if-is_longer.true)
 
 pub returns-then-b-lt128 : goal.returns-then-b-lt128
 returns-then-b-lt128 c =
     ap number_answer
     (elim c.if-b-eq0.branch [
-      | then-b-eq0+else-i-gt0 w ↦ only c.loop-i.invariant c.loop-i-test.true c.if-i-eq9.false c.if-b-lt128.true (omega arith)
+      | then-b-eq0+else-is_longer w ↦ only c.loop-i.invariant c.loop-i-test.true c.if-i-eq9.false c.if-b-lt128.true (omega arith)
       | else-b-eq0 w ↦ last c.loop-i.invariant c.loop-i-test.true c.if-i-eq9.false c.if-b-lt128.true w.if-b-eq0.false
     ])
 
