@@ -6,11 +6,6 @@ unfoldable pub number : List ℕ → ℕ
 number [] = 0
 number (b ∷ l) = b * 2 ^ (8 * length l) + number l
 
--- the number that bytes make where the least significant comes first
-unfoldable pub little : List ℕ → ℕ
-little [] = 0
-little (b ∷ l) = b + 256 * little l
-
 -- the field of n bytes that holds x, of which it has room for the low 8 n bits
 unfoldable pub bytes_of : ℕ → ℕ → List ℕ
 bytes_of zero x = []

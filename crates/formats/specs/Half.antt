@@ -1,8 +1,9 @@
 -- What title halves and rule halves have in common: key, flag and content ID in their first 16 bytes.
-use Rattle.std.specs.Prelude.{ℕ, ◌+◌, ◌*◌, ◌/◌, ◌%◌, List, [], ◌∷◌, ◌++◌, Bool, not, ◌&&◌, cond, length, get_or, leb, eqb}
+use Rattle.std.specs.Prelude.{ℕ, ◌+◌, ◌*◌, ◌/◌, ◌%◌, List, [], ◌∷◌, ◌++◌, Bool, not, ◌&&◌, cond, Option, Some, None, length, get_or, leb, eqb}
 use Rattle.formats.specs.Facts.{numbered}
 use Rattle.formats.specs.Part.{part, put}
 use Rattle.formats.specs.Field.{number, bytes_of}
+use Rattle.formats.specs.declared.facts.ContentId.{ContentId}
 
 -- "1-7 the title key", "1-7 the track information (STI) key"; of a picture, "STI field .. filled with a random number that the module
 -- gives as the STI key"
@@ -21,9 +22,9 @@ id_of h = get_or h 14 0 % 4 * 256 + get_or h 15 0
 unfoldable pub usable_of : List ℕ → Bool
 usable_of h = leb 16 (length h) && (flag_of h && not (eqb (id_of h) 0))
 
--- the content ID of a usable half, 0 for any other
-abbrev pub usable_id : List ℕ → ℕ
-usable_id h = cond (usable_of h) (id_of h) 0
+-- the content ID of a usable half; any other has none that counts
+abbrev pub usable_id : List ℕ → Option ContentId
+usable_id h = cond (usable_of h) (Some (record { 0 = id_of h })) None
 
 -- flag 1 and the content ID c, from 1 to 999: what the title half of every copy of c has
 unfoldable pub flagged_with : ℕ → List ℕ → Bool

@@ -3,9 +3,9 @@ ghost use Rattle.std.specs.Prelude.{◌≡◌};
 ghost use Rattle.formats.specs.Entry.{kind_answer, kind_of, entry_facts};
 
 use crate::facts::Facts;
-use crate::{half, rule, title};
+use crate::{facts, half, rule, title};
 
-#[derive(Clone, Copy)]
+#[derive(Clone, Copy, Debug, PartialEq, Eq)]
 pub enum EntryKind {
     // No half is usable.
     Free,
@@ -17,31 +17,18 @@ pub enum EntryKind {
     Torn,
 }
 
-// A half that is not usable has ID 0 here, which no usable half has.
 pub fn kind(title: &[u8], rule: &[u8]) -> EntryKind
     ensures { kind_answer result ≡ kind_answer (kind_of title.now rule.now) }
 {
-    let title_id = half::usable_id(title);
-    let rule_id = half::usable_id(rule);
-    if title_id == 0 {
-        if rule_id == 0 {
-            return EntryKind::Free;
-        }
-        return EntryKind::Torn;
+    match (half::usable_id(title), half::usable_id(rule)) {
+        (None, None) => EntryKind::Free,
+        (Some(id), other) if id.0 <= facts::LAST_NUMBER && title::cci(title) != 1 => match other {
+            None => EntryKind::Copy,
+            Some(rule_id) if rule_id == id => EntryKind::Full,
+            Some(_) => EntryKind::Torn,
+        },
+        _ => EntryKind::Torn,
     }
-    if 999 < title_id {
-        return EntryKind::Torn;
-    }
-    if title::cci(title) == 1 {
-        return EntryKind::Torn;
-    }
-    if rule_id == 0 {
-        return EntryKind::Copy;
-    }
-    if rule_id == title_id {
-        return EntryKind::Full;
-    }
-    EntryKind::Torn
 }
 
 // The facts that a full entry holds.

@@ -4,11 +4,11 @@ ghost use Rattle.std.specs.Prelude.{◌≡◌};
 ghost use Rattle.formats.specs.Facts.{numbered, cci_passes, trigger_passes, count_passes, key_passes, in_range, facts_pass};
 
 // A title's content ID, which is also its row in the ledger.
-#[derive(Clone, Copy)]
+#[derive(Clone, Copy, Debug, PartialEq, Eq)]
 pub struct ContentId(pub u64);
 
 // The number of an entry on the card. It never serves as a content ID.
-#[derive(Clone, Copy)]
+#[derive(Clone, Copy, Debug, PartialEq, Eq)]
 pub struct EntryNumber(pub u64);
 
 #[derive(Clone, Copy)]
@@ -43,20 +43,14 @@ pub const MOST_KEY: u64 = 0xff_ffff_ffff_ffff;
 pub fn is_numbered(v: u64) -> bool
     ensures { result ≡ numbered v }
 {
-    if v < 1 {
-        return false;
-    }
-    v <= LAST_NUMBER
+    (1..=LAST_NUMBER).contains(&v)
 }
 
 // Whether a CCI is 0, 2 or 3.
 pub fn is_cci(v: u64) -> bool
     ensures { result ≡ cci_passes v }
 {
-    if 3 < v {
-        return false;
-    }
-    v != 1
+    matches!(v, 0 | 2 | 3)
 }
 
 pub fn is_trigger(v: u64) -> bool
@@ -83,27 +77,15 @@ pub fn is_key(v: u64) -> bool
 pub fn in_range(facts: Facts) -> bool
     ensures { result ≡ in_range facts }
 {
-    if !is_cci(facts.cci) {
-        return false;
-    }
-    if !is_trigger(facts.trigger) {
-        return false;
-    }
-    if !is_count(facts.rights) {
-        return false;
-    }
-    is_count(facts.permits)
+    is_cci(facts.cci)
+        && is_trigger(facts.trigger)
+        && is_count(facts.rights)
+        && is_count(facts.permits)
 }
 
 // Whether the keys are too.
 pub fn are_facts(facts: Facts) -> bool
     ensures { result ≡ facts_pass facts }
 {
-    if !in_range(facts) {
-        return false;
-    }
-    if !is_key(facts.title_key) {
-        return false;
-    }
-    is_key(facts.sti_key)
+    in_range(facts) && is_key(facts.title_key) && is_key(facts.sti_key)
 }

@@ -54,28 +54,25 @@ pub fn content_id(half: &[u8]) -> ContentId
     ContentId(field::read_at(half, 8, 8) & ID_BITS)
 }
 
-// Flag and ID together are above the flag alone.
 pub fn usable(half: &[u8]) -> bool
     ensures { result ≡ usable_of half.now }
 {
-    if half.len() < 16 {
-        return false;
-    }
-    FLAG < field::read_at(half, 8, 8) & (FLAG | ID_BITS)
+    usable_id(half).is_some()
 }
 
-// The content ID of a usable half, 0 for any other.
-pub fn usable_id(half: &[u8]) -> u64
+// The content ID of a usable half. Of such a half flag and ID together are above the flag alone.
+pub fn usable_id(half: &[u8]) -> Option<ContentId>
     ensures { result ≡ usable_id half.now }
 {
     if half.len() < 16 {
-        return 0;
+        return None;
     }
     let tail = field::read_at(half, 8, 8);
-    if tail & FLAG == 0 {
-        return 0;
+    if FLAG < tail & (FLAG | ID_BITS) {
+        Some(ContentId(tail & ID_BITS))
+    } else {
+        None
     }
-    tail & ID_BITS
 }
 
 // Whether a half has flag 1 and this content ID, from 1 to 999. Flag and ID are compared at once, in the order of their bytes.
@@ -89,8 +86,8 @@ pub fn is_flagged(half: &[u8], content: ContentId) -> bool
     if !facts::is_numbered(id) {
         return false;
     }
-    let tail = field::swapped(field::read_at(half, 8, 8));
-    tail & SWAPPED_MARKS == field::swapped(FLAG | id)
+    let tail = field::read_at(half, 8, 8).swap_bytes();
+    tail & SWAPPED_MARKS == (FLAG | id).swap_bytes()
 }
 
 // Writes the first 16 bytes of a half: `first`, the key, flag 1, the content ID, and 0 in every reserved bit. Bytes 0 to 7 are

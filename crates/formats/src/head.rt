@@ -1,11 +1,13 @@
 // The heads of the ledger and of the two card tables. A buffer that is too short for its head is refused and not read.
 ghost use Rattle.std.specs.Prelude.{◌≡◌, ◌+◌, ◌*◌, ◌^◌};
+ghost use Rattle.formats.specs.Refusal.{answer_number};
 ghost use Rattle.formats.specs.Head.{titles_identifier, rules_identifier, ledger_application, rows_of, ledger_answer, titles_answer, rules_application, rules_answer, rules_answer_for};
 
-use crate::{facts, field, refusal};
+use crate::refusal::Refusal;
+use crate::{facts, field};
 
 // A card's title table and rule table make a pair: of audio titles or of picture titles. The identifiers in their heads differ.
-#[derive(Clone, Copy)]
+#[derive(Clone, Copy, Debug, PartialEq, Eq)]
 pub enum Pair {
     Audio,
     Picture,
@@ -63,42 +65,42 @@ pub fn rows(ledger: &[u8]) -> u64
 }
 
 // 0 where the ledger's length and head are right, else 7.
-pub fn check_ledger(ledger: &[u8]) -> u64
-    ensures { result ≡ ledger_answer ledger.now }
+pub fn check_ledger(ledger: &[u8]) -> Result<(), Refusal>
+    ensures { answer_number result ≡ ledger_answer ledger.now }
 {
     if ledger.len() < 24 {
-        return refusal::LEDGER;
+        return Err(Refusal::Ledger);
     }
     let rows = rows(ledger);
     if !facts::is_numbered(rows) {
-        return refusal::LEDGER;
+        return Err(Refusal::Ledger);
     }
     if ledger.len() as u64 != 24 * (rows + 1) {
-        return refusal::LEDGER;
+        return Err(Refusal::Ledger);
     }
-    0
+    Ok(())
 }
 
 // 0 where the title table's length and head are right, else 8. The head is compared eight bytes at a time.
-pub fn check_titles(pair: Pair, titles: &[u8]) -> u64
-    ensures { result ≡ titles_answer pair titles.now }
+pub fn check_titles(pair: Pair, titles: &[u8]) -> Result<(), Refusal>
+    ensures { answer_number result ≡ titles_answer pair titles.now }
 {
     if titles.len() != 16000 {
-        return refusal::TITLES;
+        return Err(Refusal::Titles);
     }
     // byte 2 is ignored, and the version is 10h or 09h, which is 7 less in its byte
     let front = field::read_at(titles, 0, 8) & 0xffff_00ff_ffff_ffff;
     let right = titles_front(pair);
     if front != right {
         if front != right - 0x0007_0000_0000 {
-            return refusal::TITLES;
+            return Err(Refusal::Titles);
         }
     }
     // zero, the count, 16, 01h
     if field::read_at(titles, 8, 8) >> 16 != 0x03e7_1001 {
-        return refusal::TITLES;
+        return Err(Refusal::Titles);
     }
-    0
+    Ok(())
 }
 
 // The rule table's application number.
@@ -110,36 +112,34 @@ pub fn rules_application(rules: &[u8]) -> u64
 
 // 0 where the rule table's length and head are right, whatever its application number, else 9. A version above 11h is
 // no error.
-pub fn check_rules(pair: Pair, rules: &[u8]) -> u64
-    ensures { result ≡ rules_answer pair rules.now }
+pub fn check_rules(pair: Pair, rules: &[u8]) -> Result<(), Refusal>
+    ensures { answer_number result ≡ rules_answer pair rules.now }
 {
     if rules.len() != 32000 {
-        return refusal::RULES;
+        return Err(Refusal::Rules);
     }
     let too_old = rules[3] < 0x11;
     if too_old {
-        return refusal::RULES;
+        return Err(Refusal::Rules);
     }
     // byte 2 is ignored, and the version was tested above
     if field::read_at(rules, 0, 8) & 0xffff_0000_ffff_ffff != rules_front(pair) {
-        return refusal::RULES;
+        return Err(Refusal::Rules);
     }
     // the count, 32, 02h, after the application number
     if (field::read_at(rules, 8, 8) >> 16) & 0xffff_ffff != 0x03e7_2002 {
-        return refusal::RULES;
+        return Err(Refusal::Rules);
     }
-    0
+    Ok(())
 }
 
 // The same, where the application number is to be the one given.
-pub fn check_rules_for(pair: Pair, rules: &[u8], application: u64) -> u64
-    ensures { result ≡ rules_answer_for pair application rules.now }
+pub fn check_rules_for(pair: Pair, rules: &[u8], application: u64) -> Result<(), Refusal>
+    ensures { answer_number result ≡ rules_answer_for pair application rules.now }
 {
-    if check_rules(pair, rules) != 0 {
-        return refusal::RULES;
-    }
+    check_rules(pair, rules)?;
     if rules_application(rules) != application {
-        return refusal::RULES;
+        return Err(Refusal::Rules);
     }
-    0
+    Ok(())
 }

@@ -4,7 +4,7 @@ ghost use Rattle.formats.specs.Part.{replaced};
 ghost use Rattle.formats.specs.Row.{state_answer, facts_of, state_of, here_row, plain_row, with_permits};
 
 use crate::facts::Facts;
-use crate::field;
+use crate::{facts, field};
 
 #[derive(Clone, Copy)]
 pub enum RowState {
@@ -49,24 +49,20 @@ pub fn state(row: &[u8]) -> RowState
     if row.len() != 24 {
         return RowState::NoState;
     }
-    let first = row[0];
-    if first == EMPTY {
-        return RowState::Empty;
-    }
-    if first == HERE {
-        let facts = facts(row);
-        if crate::facts::in_range(facts) {
-            return RowState::Here(facts);
+    match row[0] {
+        EMPTY => RowState::Empty,
+        HERE => {
+            let facts = facts(row);
+            if facts::in_range(facts) {
+                RowState::Here(facts)
+            } else {
+                RowState::NoState
+            }
         }
-        return RowState::NoState;
+        AWAY => RowState::Away,
+        GONE => RowState::Gone,
+        _ => RowState::NoState,
     }
-    if first == AWAY {
-        return RowState::Away;
-    }
-    if first == GONE {
-        return RowState::Gone;
-    }
-    RowState::NoState
 }
 
 // Bytes 0 to 7 of a row that is here, as one field.

@@ -6,22 +6,13 @@ ghost use Rattle.formats.specs.Part.{part};
 pub fn byte(s: &[u8], at: usize) -> u8
     ensures { result ≡ get_or s.now at 0 }
 {
-    if s.len() <= at {
-        return 0;
-    }
-    s[at]
+    s.get(at).copied().unwrap_or(0)
 }
 
 // The part of `length` bytes from place `start` on.
 pub fn part(s: &[u8], start: usize, length: usize) -> &[u8]
     ensures { result.now ≡ part s.now start length }
 {
-    let size = s.len();
-    if size <= start {
-        return &s[size..];
-    }
-    if size - start < length {
-        return &s[start..];
-    }
-    &s[start..start + length]
+    let rest = s.get(start..).unwrap_or(&s[s.len()..]);
+    rest.get(..length).unwrap_or(rest)
 }

@@ -1,21 +1,28 @@
 -- The laws of big-endian fields, for any width: what a written field reads back as, and how a field is read byte by byte.
 -- Assumes nothing.
 use Prim.Native.Nat.{ℕ, zero, suc, ◌+◌, ◌-◌, ◌*◌, ◌/◌, ◌%◌, ◌^◌, ◌≤◌, ◌<◌}
-use mathlib.Core.Path.{◌≡◌, refl, sym, ap, ◌∙◌}
-use mathlib.Core.List.{List, [], ◌∷◌, ◌++◌}
+use mathlib.Core.Path.{◌≡◌, refl, sym, ap, ap₂, ◌∙◌}
+use mathlib.Core.List.{List, [], ◌∷◌, ◌++◌, append-nil}
 use native.Mathlib.Omega.{arith}
-use native.Mathlib.Nat.{mod-eq_of_lt, mod-one, zero-div, mul-le-mul_right}
-use native.Mathlib.Numerals.{add-one}
-use lib.ListN.{length, take, drop, set, get_or, replicate, length-append, length-drop}
+use native.Mathlib.Nat.{mod-eq_of_lt, div-eq_of_lt, mod-one, zero-div, mul-le-mul_right, zero-add, suc-add}
+use lib.ListN.{length, take, drop, get_or, replicate, length-append, length-drop, length-replicate, drop_of_length-le}
+use borrow.Rule.Slice.PartMut.{put_mid}
+use Rattle.std.proofs.lemmas.List.{take-replicate, take_all, length-take-le}
+use Rattle.std.proofs.Math.Seq.{take-append_seam}
 use lib.Seq.{drop-cons, take-suc, get_or-drop}
 use lib.Pow.{pow-add, pow_mono, mod-pow-add}
 use Rattle.formats.specs.Bytes.{Bytes}
 use Rattle.formats.specs.Part.{part}
-use Rattle.formats.specs.Field.{number, bytes_of, little}
-use Rattle.formats.proofs.Bytes.{bytes, field}
+use Rattle.std.specs.Int.{w64, to_be_bytes, from_be_bytes, swap_bytes}
+use Rattle.formats.specs.Field.{number, bytes_of}
+use Rattle.formats.proofs.Bytes.{bytes}
 use Rattle.formats.proofs.Cells.{of_cells}
-use Rattle.formats.proofs.Part.{part_length, put_whole}
-use Rattle.formats.proofs.Stores.{Storing, store, start as store-start, done as store-done}
+use Rattle.formats.proofs.Part.{part_length}
+
+-- the number that bytes make where the least significant comes first
+unfoldable pub little : List ℕ → ℕ
+little [] = 0
+little (b ∷ l) = b + 256 * little l
 
 pub length_bytes_of : (n x : ℕ) → length (bytes_of n x) ≡ n
 unfolding bytes_of
@@ -76,67 +83,79 @@ number_below (suc n) a l bytes w =
     let b : get_or l a 0 ≤ 255 = omega (arith, bytes a) in
     rw (f, pow-add) (omega (arith, number_first n a l w, number_below n (suc a) l bytes (omega arith), mul-le-mul_right (2 ^ (8 * n)) b))
 
--- what the loop of `read` keeps: the number of the first i bytes, with room for the next
-pub record Reading (l : List ℕ) (value i : ℕ) : Type 0 where
-  pub so_far : value ≡ number (take i l)
-  pub room : value < 2 ^ (8 * i)
+-- the library's eight bytes of a number, and the number of eight bytes
+pub to_be : (x : ℕ) → to_be_bytes w64 x ≡ bytes_of 8 x
+unfolding bytes_of
+to_be x = let low : x % 256 ≡ x / 2 ^ 0 % 256 = omega arith in cc
 
-pub read_start : (l : List ℕ) → Reading l 0 0
+pub from_be : (l : List ℕ) → length l ≡ 8 → from_be_bytes w64 l ≡ number l
 unfolding number
-read_start l = record { so_far = refl; room = omega arith }
+from_be l size = of_cells (λ (m : List ℕ). from_be_bytes w64 m ≡ number m) 8 l size (omega arith)
 
-pub read_next : {l : List ℕ} {value i : ℕ} → Reading l value i → i < length l → get_or l i 0 < 256 → Reading l (value * 256 + get_or l i 0) (i + 1)
-read_next {l} {value} {i} r h byte =
-    let e : 8 * (i + 1) ≡ 8 * i + 8 = omega arith in
-    record {
-      so_far = rw (add-one, take-suc l i 0, number_snoc) (ap (λ (v : ℕ). v * 256 + get_or l i 0) r.so_far);
-      room = rw (e, pow-add) (omega (arith, r.room));
-    }
+-- zeros in front of a field do not count
+pub number_zeros : (n : ℕ) (l : List ℕ) → number (replicate n 0 ++ l) ≡ number l
+unfolding number
+number_zeros zero l = refl
+number_zeros (suc n) l = omega (arith, number_zeros n l)
 
--- the value has room for eight bits more in a word
-pub read_fits : {l : List ℕ} {value i : ℕ} → Reading l value i → i < 8 → value < 2 ^ 56
-read_fits {i = i} r h = omega (arith, r.room, pow_mono {i = 8 * i} {j = 56} (omega arith))
+-- a list whose last elements, from place a on, were stored at once
+pub stored_rest : (a : ℕ) (xs ys : List ℕ) → a + length ys ≡ length xs → put_mid a (length xs - a) xs ys ≡ take a xs ++ ys
+stored_rest a xs ys e =
+    ap (λ (l : List ℕ). take a xs ++ (ys ++ l)) (drop_of_length-le (drop a xs) {i = length xs - a} (omega (arith, length-drop a xs)))
+    ∙ ap (λ (l : List ℕ). take a xs ++ l) (append-nil ys)
 
--- what the loop of `write` keeps: the bytes of x before place i stand in the field, and the others are still to be stored
-pub record Writing (before : List ℕ) (x : ℕ) (field : List ℕ) (i : ℕ) : Type 0 where
-  pub storing : Storing (bytes_of (length before) x) before 0 field i (bytes_of (length before - i) x)
+-- fewer than eight bytes behind zeros
+pub behind_zeros : (l : List ℕ) {p : List ℕ} → length l < 8 → p ≡ l → from_be_bytes w64 (put_mid (8 - length l) (8 - (8 - length l)) (replicate 8 0) p) ≡ number l
+behind_zeros l {p} few e =
+    let n = 8 - length l in
+    let size : length l ≡ length p = ap length (sym e) in
+    let there : put_mid n (8 - n) (replicate 8 0) p ≡ replicate n 0 ++ l =
+    stored_rest n (replicate 8 0) p (omega arith)
+    ∙ ap₂ (λ (y z : List ℕ). y ++ z) (take-replicate n 8 0 (omega arith)) e in
+    rw there (from_be (replicate n 0 ++ l) (omega (arith, length-append (replicate n 0) l, length-replicate {A = ℕ} n 0)) ∙ number_zeros n l)
 
-pub write_start : (before : List ℕ) (x : ℕ) → Writing before x before 0
-write_start before x =
-    let e : length before - 0 ≡ length before = omega arith in
-    record { storing = rw e (store-start (bytes_of (length before) x) before 0) }
-
-pub write_next : {before field : List ℕ} {x i : ℕ} (b : ℕ) → Writing before x field i → i < length field
-    → b ≡ x / 2 ^ (8 * (length field - 1 - i)) % 256 → Writing before x (set field i b) (i + 1)
+-- the low bytes of a field of more of them
+pub low_bytes_of : (k n x : ℕ) → drop k (bytes_of (k + n) x) ≡ bytes_of n x
 unfolding bytes_of
-write_next {before} {field} {x} {i} b w h e =
-    let s = w.storing.size in
-    let m : length before - i ≡ suc (length before - (i + 1)) = omega arith in
-    let k : length field - 1 - i ≡ length before - (i + 1) = omega arith in
-    record { storing = rw (e, k) (store (rw m at w.storing) h) }
+low_bytes_of zero n x = ap (λ (m : ℕ). bytes_of m x) (zero-add n)
+low_bytes_of (suc k) n x = rw (suc-add k n) (low_bytes_of k n x)
 
-pub write_done : {before field : List ℕ} {x i : ℕ} → Writing before x field i → length field ≤ i → field ≡ bytes_of (length before) x
+-- zeros where a field is longer than its number
+pub bytes_of_long : (k n x : ℕ) → x < 2 ^ (8 * n) → bytes_of (k + n) x ≡ replicate k 0 ++ bytes_of n x
 unfolding bytes_of
-write_done {before} {field} {x} {i} w h =
-    let s = w.storing.size in
-    let m : length before - i ≡ 0 = omega arith in
-    store-done (rw m at w.storing) ∙ put_whole before (bytes_of (length before) x) (length_bytes_of (length before) x)
+bytes_of_long zero n x h = ap (λ (m : ℕ). bytes_of m x) (zero-add n)
+bytes_of_long (suc k) n x h =
+    let small : x < 2 ^ (8 * (k + n)) = omega (arith, h, pow_mono {i = 8 * n} {j = 8 * (k + n)} (omega arith)) in
+    let top : x / 2 ^ (8 * (k + n)) % 256 ≡ 0 = rw (div-eq_of_lt small) refl in
+    rw (suc-add k n) (ap₂ (λ (b : ℕ) (l : List ℕ). b ∷ l) top (bytes_of_long k n x h))
+
+-- a field of at most eight bytes, filled with the last of a number's eight
+pub low_field : (n x : ℕ) {b p : List ℕ} → n ≤ 8 → b ≡ to_be_bytes w64 x → p ≡ take (8 - (8 - n)) (drop (8 - n) b) → p ≡ bytes_of n x
+low_field n x {b} few from e =
+    let all : 8 - n + n ≡ 8 = omega arith in
+    let last : drop (8 - n) (bytes_of 8 x) ≡ bytes_of n x = ap (λ (m : ℕ). drop (8 - n) (bytes_of m x)) (sym all) ∙ low_bytes_of (8 - n) n x in
+    e
+    ∙ ap (λ (l : List ℕ). take (8 - (8 - n)) (drop (8 - n) l)) (from ∙ to_be x)
+    ∙ ap (take (8 - (8 - n))) last
+    ∙ take_all (8 - (8 - n)) (bytes_of n x) (omega (arith, length_bytes_of n x))
+
+-- a longer one, filled with zeros and all eight
+pub long_field : (l : List ℕ) (x : ℕ) {zeros b p : List ℕ} → 8 < length l → x < 2 ^ 64
+    → zeros ≡ replicate (length (take (length l - 8) l)) 0 → b ≡ to_be_bytes w64 x → p ≡ b
+    → put_mid (length l - 8) (length (zeros ++ drop (length l - 8) l) - (length l - 8)) (zeros ++ drop (length l - 8) l) p ≡ bytes_of (length l) x
+long_field l x {zeros} {b} {p} long fits cleared from e =
+    let k = length l - 8 in
+    let cut : length (take k l) ≡ k = length-take-le k l (omega arith) in
+    let clear : zeros ≡ replicate k 0 = cleared ∙ ap (λ (n : ℕ). replicate n 0) cut in
+    let size : length zeros ≡ k = ap length clear ∙ length-replicate {A = ℕ} k 0 in
+    let eight : p ≡ bytes_of 8 x = e ∙ from ∙ to_be x in
+    let all : k + 8 ≡ length l = omega arith in
+    stored_rest k (zeros ++ drop k l) p (omega (arith, length-append zeros (drop k l), length-drop k l, ap length eight, length_bytes_of 8 x))
+    ∙ ap₂ (λ (y z : List ℕ). y ++ z) (ap (λ (n : ℕ). take n (zeros ++ drop k l)) (sym size) ∙ take-append_seam zeros (drop k l) ∙ clear) eight
+    ∙ sym (bytes_of_long k 8 x fits)
+    ∙ ap (λ (n : ℕ). bytes_of n x) all
 
 module _ (b1 b2 b3 b4 b5 b6 b7 b8 : ℕ) where
-  -- eight bytes appended one by one: the last is the least significant
-  pub appended : {v1 v2 v3 v4 v5 v6 v7 v8 : ℕ}
-      → v1 ≡ 0 * 256 + b1
-      → v2 ≡ v1 * 256 + b2
-      → v3 ≡ v2 * 256 + b3
-      → v4 ≡ v3 * 256 + b4
-      → v5 ≡ v4 * 256 + b5
-      → v6 ≡ v5 * 256 + b6
-      → v7 ≡ v6 * 256 + b7
-      → v8 ≡ v7 * 256 + b8
-      → v8 ≡ little (b8 ∷ b7 ∷ b6 ∷ b5 ∷ b4 ∷ b3 ∷ b2 ∷ b1 ∷ [])
-  unfolding little
-  appended e1 e2 e3 e4 e5 e6 e7 e8 = omega arith
-
   -- the order of bytes does not change the number where the order of reading changes too
   pub turned : little (b8 ∷ b7 ∷ b6 ∷ b5 ∷ b4 ∷ b3 ∷ b2 ∷ b1 ∷ []) ≡ number (b1 ∷ b2 ∷ b3 ∷ b4 ∷ b5 ∷ b6 ∷ b7 ∷ b8 ∷ [])
   unfolding little number
@@ -177,20 +196,7 @@ twice l size byte =
 pub bytes_number : (l : List ℕ) → length l ≡ 8 → Bytes l → bytes_of 8 (number l) ≡ l
 bytes_number l size byte = ap (bytes_of 8) (sym (little_swapped l size byte)) ∙ twice l size byte
 
--- a field of eight bytes, in the two orders
-pub swapped_bytes : (x : ℕ) → bytes_of 8 (little (bytes_of 8 (little (bytes_of 8 x)))) ≡ bytes_of 8 x
-swapped_bytes x = twice (bytes_of 8 x) (length_bytes_of 8 x) (bytes (field 8 x))
-
--- eight stores fill a field of eight bytes
-pub stored_eight : (l : List ℕ) (b1 b2 b3 b4 b5 b6 b7 b8 : ℕ) → length l ≡ 8 → set (set (set (set (set (set (set (set l 0 b1) 1 b2) 2 b3) 3 b4) 4 b5) 5 b6) 6 b7) 7 b8 ≡ b1 ∷ b2 ∷ b3 ∷ b4 ∷ b5 ∷ b6 ∷ b7 ∷ b8 ∷ []
-stored_eight l b1 b2 b3 b4 b5 b6 b7 b8 size = of_cells (λ (m : List ℕ). set (set (set (set (set (set (set (set m 0 b1) 1 b2) 2 b3) 3 b4) 4 b5) 5 b6) 6 b7) 7 b8 ≡ b1 ∷ b2 ∷ b3 ∷ b4 ∷ b5 ∷ b6 ∷ b7 ∷ b8 ∷ []) 8 l size refl
-
--- the bytes of x, taken from the least significant on
-pub bytes_are : (x : ℕ) {b1 b2 b3 b4 b5 b6 b7 b8 : ℕ} → b1 ≡ x % 256 → b2 ≡ x / 2 ^ 8 % 256 → b3 ≡ x / 2 ^ 16 % 256 → b4 ≡ x / 2 ^ 24 % 256 → b5 ≡ x / 2 ^ 32 % 256 → b6 ≡ x / 2 ^ 40 % 256 → b7 ≡ x / 2 ^ 48 % 256 → b8 ≡ x / 2 ^ 56 % 256 → b8 ∷ b7 ∷ b6 ∷ b5 ∷ b4 ∷ b3 ∷ b2 ∷ b1 ∷ [] ≡ bytes_of 8 x
-unfolding bytes_of
-bytes_are x {b1} e1 e2 e3 e4 e5 e6 e7 e8 = let low : b1 ≡ x / 2 ^ 0 % 256 = omega arith in cc
-
-pub bytes_turned : (x : ℕ) {b1 b2 b3 b4 b5 b6 b7 b8 : ℕ} → b1 ≡ x % 256 → b2 ≡ x / 2 ^ 8 % 256 → b3 ≡ x / 2 ^ 16 % 256 → b4 ≡ x / 2 ^ 24 % 256 → b5 ≡ x / 2 ^ 32 % 256 → b6 ≡ x / 2 ^ 40 % 256 → b7 ≡ x / 2 ^ 48 % 256 → b8 ≡ x / 2 ^ 56 % 256 → b1 ∷ b2 ∷ b3 ∷ b4 ∷ b5 ∷ b6 ∷ b7 ∷ b8 ∷ [] ≡ bytes_of 8 (little (bytes_of 8 x))
-bytes_turned x {b1} {b2} {b3} {b4} {b5} {b6} {b7} {b8} e1 e2 e3 e4 e5 e6 e7 e8 =
-    sym (reversed b8 b7 b6 b5 b4 b3 b2 b1 (omega arith) (omega arith) (omega arith) (omega arith) (omega arith) (omega arith) (omega arith) (omega arith))
-    ∙ ap (λ (l : List ℕ). bytes_of 8 (little l)) (bytes_are x e1 e2 e3 e4 e5 e6 e7 e8)
+-- the library's other order of a number's bytes
+pub swapped : (x : ℕ) → swap_bytes w64 x ≡ little (bytes_of 8 x)
+unfolding little bytes_of
+swapped x = let low : x % 256 ≡ x / 2 ^ 0 % 256 = omega arith in omega arith

@@ -3,7 +3,10 @@
 use Prim.Native.Nat.{ℕ, ◌+◌, ◌-◌, ◌*◌, ◌/◌, ◌%◌, ◌^◌, ◌≤◌, ◌<◌}
 use mathlib.Core.Path.{◌≡◌, refl, sym, ap, ◌∙◌}
 use mathlib.Core.List.{List, [], ◌∷◌, ◌++◌}
-use mathlib.Core.Bool.{Bool, true, false, not, ◌&&◌, cond}
+use mathlib.Core.Bool.{Bool, true, false, not, ◌&&◌}
+use Rattle.std.specs.Prelude.{Option, Some, None}
+use Rattle.std.proofs.lemmas.Option.{none-some, cond_some}
+use Rattle.formats.specs.declared.facts.ContentId.{ContentId}
 use native.Mathlib.Omega.{arith}
 use native.Mathlib.Nat.{mod-eq_of_lt}
 use native.Mathlib.Decide.{dec_le, ℕ_discrete}
@@ -13,7 +16,7 @@ use lib.ListN.{length, drop, get_or, replicate, length-append}
 use lib.Seq.{get_or-drop}
 use borrow.Author.Tests.{le-leb, lt-leb, lt-ltb, le-ltb, eq-eqb, ne_eqb, eqb-false, not-true}
 use Rattle.formats.specs.Part.{part, put}
-use Rattle.formats.specs.Field.{number, bytes_of, little}
+use Rattle.formats.specs.Field.{number, bytes_of}
 use Rattle.formats.specs.Facts.{numbered}
 use Rattle.formats.specs.Half.{key_of, flag_of, id_of, usable_of, usable_id, flagged_with, half_bytes, wiped, changed_half}
 use Rattle.formats.proofs.Part.{part_length, put_length, get_or_put_before, part_put_before}
@@ -22,7 +25,7 @@ use Rattle.formats.proofs.Bytes.{Listed, none, more, then, zeros, field, bytes_p
 use Rattle.formats.proofs.Cells.{part_cells}
 use Rattle.formats.proofs.Tests.{split, and_false}
 use Rattle.formats.proofs.Zeros.{zero_at}
-use Rattle.formats.proofs.field.Laws.{length_bytes_of, number_bytes_of, number_first, number_last, number_below, bytes_number}
+use Rattle.formats.proofs.field.Laws.{length_bytes_of, number_bytes_of, number_first, number_last, number_below, bytes_number, little}
 
 -- a half that was lent with 16 bytes or more
 pub changed_half_lem : (new old : List ℕ) → 16 ≤ length old → changed_half new old ≡ new
@@ -91,31 +94,26 @@ pub flagged : (h : List ℕ) → 16 ≤ length h → flag_of h ≡ true → usab
 unfolding usable_of
 flagged h whole set = simp (le-leb 16 (length h) whole, set)
 
--- the ID that counts
-pub unusable_id : (h : List ℕ) → usable_of h ≡ false → 0 ≡ usable_id h
-unusable_id h e = sym (ap (λ (b : Bool). cond b (id_of h) 0) e)
+-- no ID counts where the half is not usable, and its own does where it is
+pub no_id : (h : List ℕ) → usable_of h ≡ false → usable_id h ≡ None
+no_id h e = simp e refl
 
-pub flagged_id : (h : List ℕ) → 16 ≤ length h → flag_of h ≡ true → id_of h ≡ usable_id h
-flagged_id h whole set = by (ℕ_discrete (id_of h) 0)
-  where
-    by : Dec (id_of h ≡ 0) → id_of h ≡ usable_id h
-    by (yes z) = z ∙ unusable_id h (flagged h whole set ∙ ap not (eq-eqb (id_of h) 0 z))
-    by (no n) = sym (ap (λ (b : Bool). cond b (id_of h) 0) (flagged h whole set ∙ ap not (ne_eqb (id_of h) 0 n)))
+pub some_id : (h : List ℕ) → usable_of h ≡ true → usable_id h ≡ Some (record { 0 = id_of h })
+some_id h e = simp e refl
 
--- where none counts the half is not usable, and where one does it is the half's
-pub no_id : (h : List ℕ) → usable_id h ≡ 0 → usable_of h ≡ false
-no_id h e = by (usable_of h) refl
-  where
-    by : (b : Bool) → usable_of h ≡ b → usable_of h ≡ false
-    by true u = let z : id_of h ≡ 0 = ap (λ (x : Bool). cond x (id_of h) 0) (sym u) ∙ e in absurd (omega (arith, usable_id_lem h u))
-    by false u = u
+-- and so read the other way
+module _ (h : List ℕ) {found : Option ContentId} (is : found ≡ usable_id h) where
+  pub without_id : found ≡ None → usable_of h ≡ false
+  without_id empty = by (usable_of h) refl
+    where
+      by : (b : Bool) → usable_of h ≡ b → usable_of h ≡ false
+      by true u = absurd (none-some _ (sym empty ∙ is ∙ some_id h u))
+      by false u = u
 
-pub some_id : (h : List ℕ) → (usable_id h ≡ 0 → ⊥) → (usable_of h ≡ true) × (usable_id h ≡ id_of h)
-some_id h n = by (usable_of h) refl
-  where
-    by : (b : Bool) → usable_of h ≡ b → (usable_of h ≡ true) × (usable_id h ≡ id_of h)
-    by true u = (u, ap (λ (x : Bool). cond x (id_of h) 0) u)
-    by false u = absurd (n (ap (λ (x : Bool). cond x (id_of h) 0) u))
+  pub with_id : {id : ContentId} → found ≡ Some id → (usable_of h ≡ true) × (id_of h ≡ id.0)
+  with_id {id} some =
+      let (usable, same) = cond_some (usable_of h) (record { 0 = id_of h }) id (sym is ∙ some) in
+      (usable, ap (λ (x : ContentId). x.0) same)
 
 -- a half of zeros is not usable
 pub zeros_unusable : (n : ℕ) → usable_of (replicate n 0) ≡ false
@@ -194,16 +192,6 @@ module _ (h : List ℕ) (byte : Bytes h) (size : 16 ≤ length h) where
   -- the flag by its mask
   tail_flag : bit_and (number (part h 8 8)) (2 ^ 63) ≡ get_or h 8 0 / 128 * 2 ^ 63
   tail_flag = and_high (number (part h 8 8)) 1 63 ∙ omega (arith, tail_top, byte 8)
-
-  pub tail_flagged : {w : ℕ} → w ≡ number (part h 8 8) → (bit_and w (2 ^ 63) ≡ 0 → ⊥) → flag_of h ≡ true
-  tail_flagged e set =
-      elim (dec_le 128 (get_or h 8 0)) [
-        | yes p ↦ le-leb 128 (get_or h 8 0) p
-        | no p ↦ absurd (set (ap (λ (x : ℕ). bit_and x (2 ^ 63)) e ∙ tail_flag ∙ omega arith))
-      ]
-
-  pub tail_clear : {w : ℕ} → w ≡ number (part h 8 8) → bit_and w (2 ^ 63) ≡ 0 → flag_of h ≡ false
-  tail_clear e clear = lt-leb 128 (get_or h 8 0) (omega (arith, sym tail_flag ∙ sym (ap (λ (x : ℕ). bit_and x (2 ^ 63)) e) ∙ clear))
 
   -- flag and ID together are above the flag alone where both count
   tail_marks : bit_and (number (part h 8 8)) (2 ^ 63 + 1023) ≡ get_or h 8 0 / 128 * 2 ^ 63 + id_of h

@@ -1,23 +1,14 @@
--- `formats::field::write` meets its contract: eight bytes at once, or a loop that stores the bytes of x one by one.
+-- `formats::field::write` meets its contract: the last of eight bytes, or all of them behind zeros.
 -- Assumes nothing.
-use Prim.Native.Nat.{ℕ}
-use mathlib.Core.Path.{sym, ap, ◌∙◌}
-use Rattle.formats.specs.Field.{bytes_of, little}
-use Rattle.formats.proofs.field.Laws.{swapped_bytes, write_start, write_next, write_done}
+use Rattle.formats.proofs.field.Laws.{low_field, long_field}
 use Rattle.formats.proofs.field.write.Goals as goal
 
-pub returns-then-field-eq8 : goal.returns-then-field-eq8
-returns-then-field-eq8 c =
-    c.write_little.ensures
-    ∙ ap (λ (y : ℕ). bytes_of 8 (little (bytes_of 8 y))) c.swapped.ensures
-    ∙ swapped_bytes c.args.x
-    ∙ ap (λ (n : ℕ). bytes_of n c.args.x) (sym c.if-field-eq8.true)
+pub returns-then-size-le8 : goal.returns-then-size-le8
+returns-then-size-le8 c = low_field _ c.args.x c.if-size-le8.true c.to_be_bytes-bytes.ensures c.copy_from_slice.ensures.after
 
-pub loop-i-init : goal.loop-i-init
-loop-i-init c = write_start _ _
-
-pub loop-i-preserved : goal.loop-i-preserved
-loop-i-preserved c = write_next c.byte_at.result c.loop-i.invariant c.loop-i-test.true c.byte_at.ensures
-
-pub returns : goal.returns
-returns c = write_done c.loop-i.invariant c.loop-i-test.false
+pub returns-else-size-le8 : goal.returns-else-size-le8
+returns-else-size-le8 c =
+    long_field c.args.field.now c.args.x c.if-size-le8.false c.ranges.x.fits
+    (c.fill.ensures.after (λ y e. e))
+    c.to_be_bytes-bytes.ensures
+    c.copy_from_slice-else-size-le8.ensures.after
