@@ -14,12 +14,10 @@ pub fn one_less(n: u64) -> u64
     ensures { result ≡ one_less n }
 {
     if n >= UNLIMITED {
-        return n;
+        n
+    } else {
+        n.saturating_sub(1)
     }
-    if n == 0 {
-        return 0;
-    }
-    n - 1
 }
 
 // One more; an unlimited count stays as it is.
@@ -27,10 +25,7 @@ pub fn one_less(n: u64) -> u64
 pub fn one_more(n: u64) -> u64
     ensures { result ≡ one_more n }
 {
-    if UNLIMITED <= n {
-        return n;
-    }
-    n + 1
+    if UNLIMITED <= n { n } else { n + 1 }
 }
 
 // The facts of a title after a move: one move right less.
@@ -38,12 +33,8 @@ pub fn after_move(facts: Facts) -> Facts
     ensures { result ≡ after_move facts }
 {
     Facts {
-        cci: facts.cci,
-        trigger: facts.trigger,
         rights: one_less(facts.rights),
-        permits: facts.permits,
-        title_key: facts.title_key,
-        sti_key: facts.sti_key,
+        ..facts
     }
 }
 
@@ -51,8 +42,5 @@ pub fn after_move(facts: Facts) -> Facts
 pub fn may_not_move(trigger: u64, rights: u64) -> bool
     ensures { result ≡ may_not_move trigger rights }
 {
-    if trigger == 1 {
-        return true;
-    }
-    rights == 0
+    trigger == 1 || rights == 0
 }

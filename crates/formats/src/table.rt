@@ -1,6 +1,6 @@
 // Reading bytes by their place, also where a buffer has too few of them: a byte past the end reads as 0, and a part ends
 // where its buffer ends.
-ghost use Rattle.std.specs.Prelude.{◌≡◌, get_or};
+ghost use Rattle.std.specs.Prelude.{◌≡◌, ◌*◌, get_or};
 ghost use Rattle.formats.specs.Part.{part};
 
 pub fn byte(s: &[u8], at: usize) -> u8
@@ -15,4 +15,14 @@ pub fn part(s: &[u8], start: usize, length: usize) -> &[u8]
 {
     let rest = s.get(start..).unwrap_or(&s[s.len()..]);
     rest.get(..length).unwrap_or(rest)
+}
+
+// Slot `i` of a table of slots of one width. A table that ends before it has nothing there.
+pub fn slot<const WIDTH: usize>(table: &[u8], i: u64) -> &[u8]
+    ensures { result.now ≡ part table.now (WIDTH * i) WIDTH }
+{
+    match (i as usize).checked_mul(WIDTH) {
+        Some(start) => part(table, start, WIDTH),
+        None => &table[table.len()..],
+    }
 }

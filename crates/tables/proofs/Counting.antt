@@ -3,18 +3,19 @@
 use Prim.Native.Nat.{ℕ, zero, suc, ◌+◌, ◌-◌, ◌≤◌, ◌<◌}
 use mathlib.Core.Path.{◌≡◌, refl, sym, ap, ◌∙◌}
 use mathlib.Core.List.{List}
-use mathlib.Core.Bool.{Bool, true, false, not, cond, true≢false}
+use mathlib.Core.Bool.{Bool, true, false, not, ◌&&◌, true≢false}
 use native.Mathlib.Omega.{arith}
 use native.Mathlib.Nat.{zero-add, suc-add}
 use lib.Dec.{eqb}
 use borrow.Author.Tests.{ne_eqb, eq-eqb, eqb-true, le-leb}
-use Rattle.formats.specs.Half.{id_of, usable_of, usable_id, flagged_with}
+use Rattle.formats.specs.Half.{id_of, usable_of, flagged_with}
 use Rattle.formats.specs.Title.{cci_of}
 use Rattle.formats.specs.Entry.{kind_of}
 use Rattle.formats.specs.declared.entry.EntryKind.{EntryKind}
 use Rattle.formats.specs.declared.entry.EntryKind.TheVariants.{Free, Copy, Full, Torn}
 use Rattle.formats.proofs.Tests.{split, both, refuted}
-use Rattle.formats.proofs.half.Laws.{some_id}
+use Rattle.formats.specs.Facts.{numbered}
+use Rattle.formats.proofs.facts.Laws.{numbered_range}
 use Rattle.formats.proofs.entry.Laws.{IsCopy, of_copy, copy_beside}
 use Rattle.calls.specs.Buffers.{is_copy, copy_of, one, total}
 
@@ -122,25 +123,19 @@ module _ (c : ℕ) (t r : List ℕ) where
   pub not_held : false ≡ flagged_with c t → false ≡ copy_of c t r
   not_held f = sym (refuted (λ e. true≢false (sym (copy_flagged e) ∙ sym f)))
 
-  -- nor what counts with another ID
-  pub other_id : (usable_id t ≡ c → ⊥) → false ≡ copy_of c t r
-  other_id n =
-      sym
-      (refuted
-      (λ e.
-      let (k, i) = copy_says e in
-      n (ap (λ (b : Bool). cond b (id_of t) 0) k.title_sound.usable ∙ i)))
-
   -- nor what has CCI 1
   pub reserved : cci_of t ≡ 1 → false ≡ copy_of c t r
   reserved one = sym (refuted (λ e. (copy_says e).0.title_sound.cci_not_one one))
 
-  -- with the ID of c and a sound title half it goes by the rule half
-  pub by_rule : 1 ≤ c → c ≤ 999 → usable_id t ≡ c → (cci_of t ≡ 1 → ⊥) → not (usable_of r) ≡ copy_of c t r
-  by_rule some few id not_one =
-      let (u, same) = some_id t (λ z. omega arith) in
-      by u (sym same ∙ id) (usable_of r) refl
+  -- with its flag and the ID of c and a sound title half it goes by the rule half
+  pub by_rule : flagged_with c t ≡ true → (cci_of t ≡ 1 → ⊥) → not (usable_of r) ≡ copy_of c t r
+  unfolding flagged_with
+  by_rule marked not_one =
+      let (named, used) = split (numbered c) (usable_of t && eqb (id_of t) c) marked in
+      let (usable, same) = split (usable_of t) (eqb (id_of t) c) used in
+      let (from, to) = numbered_range c named in
+      by usable (eqb-true (id_of t) c same) to (usable_of r) refl
     where
-      by : usable_of t ≡ true → id_of t ≡ c → (b : Bool) → usable_of r ≡ b → not (usable_of r) ≡ copy_of c t r
-      by u i false e = simp (e, copy_beside t r u (omega arith) not_one e, eq-eqb (id_of t) c i)
-      by u i true e = ap not e ∙ sym (refuted (λ k. true≢false (sym e ∙ (copy_says k).0.rule_unusable)))
+      by : usable_of t ≡ true → id_of t ≡ c → c ≤ 999 → (b : Bool) → usable_of r ≡ b → not (usable_of r) ≡ copy_of c t r
+      by u i few false e = simp (e, copy_beside t r u (omega arith) not_one e, eq-eqb (id_of t) c i)
+      by u i few true e = ap not e ∙ sym (refuted (λ k. true≢false (sym e ∙ (copy_says k).0.rule_unusable)))

@@ -12,13 +12,16 @@ use lib.Dec.{eqb}
 use lib.ListN.{length, get_or, set, replicate, length-set, length-replicate, get_or-replicate, get_or-eq_default}
 use lib.Seq.{get_or-set_same, get_or-set_other}
 use borrow.Author.Tests.{eq-eqb, ne_eqb}
-use Rattle.formats.specs.Half.{id_of, usable_id}
+use Rattle.std.specs.Prelude.{Option, Some, None}
+use Rattle.formats.specs.Half.{id_of, usable_of, usable_id}
+use Rattle.formats.specs.declared.facts.ContentId.{ContentId}
+use Rattle.formats.proofs.half.Laws.{without_id, with_id}
 use Rattle.formats.specs.Entry.{kind_of, kind_answer}
 use Rattle.formats.specs.declared.entry.EntryKind.{EntryKind}
 use Rattle.formats.specs.declared.entry.EntryKind.TheVariants.{Free, Copy, Full, Torn}
 use Rattle.formats.proofs.Tests.{refuted}
 use Rattle.formats.proofs.entry.Laws.{Sound, same_kind, of_copy, of_full}
-use Rattle.calls.specs.Buffers.{title_at, rule_at, copies, full_with, first_of, one, total}
+use Rattle.calls.specs.Buffers.{title_at, rule_at, copies, full_with, first_of, one, total, Within}
 use Rattle.calls.proofs.First.{first_before, first_here, first_not_yet}
 use Rattle.tables.specs.Copies.{copy_at}
 use Rattle.tables.specs.ByTitle.{first_full, is_wanted, title_in, ForEach}
@@ -44,34 +47,29 @@ module _ (full : Bool) (t r : List ℕ) where
       by true k = (of_full t r k).title_sound
       by false k = (of_copy t r k).title_sound
 
-  title_shown : is_wanted full (kind_of t r) ≡ true → (usable_id t ≡ title_in full t r) × (usable_id t ≤ 999)
+  title_shown : is_wanted full (kind_of t r) ≡ true → (id_of t ≡ title_in full t r) × Within 999 (id_of t)
   title_shown e =
       let s = sound e in
-      let id : usable_id t ≡ id_of t = ap (λ (b : Bool). cond b (id_of t) 0) s.usable in
-      (id ∙ sym (ap (λ (b : Bool). cond b (id_of t) 0) e), omega (arith, id, s.id_to))
+      (sym (ap (λ (b : Bool). cond b (id_of t) 0) e), record { from = s.id_from; to = s.id_to })
 
   nothing_shown : (is_wanted full (kind_of t r) ≡ true → ⊥) → 0 ≡ title_in full t r
   nothing_shown h = sym (ap (λ (b : Bool). cond b (id_of t) 0) (refuted h))
 
 -- by the steps of the code: s and q are the halves t and r
-module _ (full : Bool) {s t : List ℕ} (r : List ℕ) (title : s ≡ t) {id : ℕ} (is : id ≡ usable_id s) where
-  pub unusable : id ≡ 0 → 0 ≡ title_in full t r
-  unusable z =
-      nothing_shown full t r
-      (λ e.
-      let k = sound full t r e in
-      let same : usable_id t ≡ id_of t = ap (λ (b : Bool). cond b (id_of t) 0) k.usable in
-      omega (arith, k.id_from, same, ap usable_id title))
+module _ (full : Bool) {s t : List ℕ} (r : List ℕ) (title : s ≡ t) {found : Option ContentId} (is : found ≡ usable_id s) where
+  pub unusable : found ≡ None → 0 ≡ title_in full t r
+  unusable empty =
+      nothing_shown full t r (λ e. true≢false (sym (sound full t r e).usable ∙ ap usable_of (sym title) ∙ without_id s is empty))
 
   module _ {q : List ℕ} (rule : q ≡ r) (k : EntryKind) (kind : kind_answer k ≡ kind_answer (kind_of s q)) {x : Bool} (test : x ≡ is_wanted full k) where
     wanted : x ≡ is_wanted full (kind_of t r)
     wanted = test ∙ ap (is_wanted full) (same_kind kind ∙ ap₂ kind_of title rule)
 
-    pub shown : x ≡ true → (id ≡ title_in full t r) × (id ≤ 999)
-    shown e =
-        let (same, few) = title_shown full t r (sym wanted ∙ e) in
-        let i : id ≡ usable_id t = is ∙ ap usable_id title in
-        (i ∙ same, omega arith)
+    pub shown : {id : ContentId} → found ≡ Some id → x ≡ true → (id.0 ≡ title_in full t r) × Within 999 id.0
+    shown {id} some e =
+        let (same, within) = title_shown full t r (sym wanted ∙ e) in
+        let i : id_of t ≡ id.0 = ap id_of (sym title) ∙ (with_id s is some).1 in
+        (sym i ∙ same, record { from = omega (arith, within.from); to = omega (arith, within.to) })
 
     pub not_shown : x ≡ false → 0 ≡ title_in full t r
     not_shown e = nothing_shown full t r (λ y. true≢false (sym y ∙ sym wanted ∙ e))

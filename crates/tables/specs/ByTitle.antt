@@ -1,5 +1,6 @@
 -- What a card has of each title: how many copies, and the first full entry.
-use Rattle.std.specs.Prelude.{ℕ, ◌≡◌, List, Bool, true, false, cond, length, get_or}
+use Rattle.std.specs.Prelude.{ℕ, ◌≡◌, List, Bool, true, false, cond, Option, None, Some, length, get_or}
+use Rattle.formats.specs.declared.facts.ContentId.{ContentId}
 use Rattle.formats.specs.Half.{id_of}
 use Rattle.formats.specs.Entry.{kind_of}
 use Rattle.formats.specs.declared.entry.EntryKind.{EntryKind}
@@ -25,3 +26,8 @@ is_wanted false kind = is_copy kind
 -- the title whose full entry, or whose copy, an entry is; 0, which no title has, where it is none
 abbrev pub title_in : Bool → List ℕ → List ℕ → ℕ
 title_in full t r = cond (is_wanted full (kind_of t r)) (id_of t) 0
+
+-- the ID that was found, 0 where none was
+abbrev pub id_or_0 : Option ContentId → ℕ
+id_or_0 None = 0
+id_or_0 (Some id) = id.0

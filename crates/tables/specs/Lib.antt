@@ -1,3 +1,4 @@
+pub mod Shop
 pub mod Copies
 pub mod ByTitle
 pub mod Format

@@ -7,13 +7,6 @@ use Rattle.requests.specs.declared.request.Argument.TheVariants.{Content}
 use Rattle.calls.specs.Buffers.{copies}
 use Rattle.calls.specs.Conditions.{◌limits◌}
 use Rattle.calls.specs.Refusal.{Condition, ◌unless◌, first}
-use Rattle.tables.specs.declared.tally.Tallied.{Tallied}
-use Rattle.tables.specs.declared.tally.Tallied.TheVariants.{Copies, Refused}
-
--- the answer of each case: the number of copies, or the refusal
-abbrev pub tally_answer : Tallied → Answer
-tally_answer (Copies n) = done (n ∷ [])
-tally_answer (Refused w) = refused w
 
 -- "4 c not 1 to 999"; "8 title table length or head wrong"; "9 rule table likewise, its application number other than the
 -- ledger's included (a tally, without ledger, skips that number)"

@@ -1,21 +1,13 @@
 // Formatting writes a fresh ledger or card over whatever stood in the buffers. It tests R and the lengths, and looks at no
 // bytes.
 ghost use Rattle.std.specs.Prelude.{◌≡◌, ◌++◌, ◌-◌, ◌≤◌, length, replicate};
+ghost use Rattle.formats.specs.Refusal.{answer_number};
 ghost use Rattle.formats.specs.Head.{table_head};
 ghost use Rattle.tables.specs.Format.{ledger_formatting, formatted_ledger, card_formatting, formatted_titles, formatted_rules};
 
 use formats::head::Pair;
-use formats::{facts, field, head, refusal};
-
-fn clear(buffer: &mut [u8])
-    ensures { buffer.new ≡ replicate (length buffer.old) 0 }
-{
-    let mut i: usize = 0;
-    while i < buffer.len() {
-        buffer[i] = 0;
-        i += 1;
-    }
-}
+use formats::refusal::Refusal;
+use formats::{facts, field, head};
 
 // A fresh card table: its head up to byte 13, and zeros.
 fn fresh_table(
@@ -40,39 +32,44 @@ fn fresh_table(
     field::write(&mut table[10..12], 999);
     table[12] = width;
     table[13] = mark;
-    clear(&mut table[14..]);
+    table[14..].fill(0);
 }
 
-// Answers 0, or 4 or 7 with nothing changed.
+// Done, or refused with 4 or 7 and nothing changed.
 #[tactic(auto, unfolding(crate::specs::Format::ledger_formatting, crate::specs::Format::formatted_ledger, calls::specs::Refusal::first))]
-pub fn format_ledger(ledger: &mut [u8], rows: u64, application: u16) -> u64
-    ensures answer { result ≡ ledger_formatting ledger.old rows }
+pub fn format_ledger(ledger: &mut [u8], rows: u64, application: u16) -> Result<(), Refusal>
+    ensures answer { answer_number result ≡ ledger_formatting ledger.old rows }
     ensures ledger_formatted { ledger.new ≡ formatted_ledger ledger.old rows application }
 {
     if !facts::is_numbered(rows) {
-        return refusal::CONTENT_ID;
+        return Err(Refusal::ContentId);
     }
     if ledger.len() as u64 != 24 * (rows + 1) {
-        return refusal::LEDGER;
+        return Err(Refusal::Ledger);
     }
     field::write(&mut ledger[0..2], application as u64);
     field::write(&mut ledger[2..4], rows);
-    clear(&mut ledger[4..]);
-    0
+    ledger[4..].fill(0);
+    Ok(())
 }
 
-// Answers 0, or 8 or 9 with nothing changed in either table.
+// Done, or refused with 8 or 9 and nothing changed in either table.
 #[tactic(auto, unfolding(crate::specs::Format::card_formatting, crate::specs::Format::formatted_titles, crate::specs::Format::formatted_rules, calls::specs::Refusal::first))]
-pub fn format_card(pair: Pair, titles: &mut [u8], rules: &mut [u8], application: u16) -> u64
-    ensures answer { result ≡ card_formatting titles.old rules.old }
+pub fn format_card(
+    pair: Pair,
+    titles: &mut [u8],
+    rules: &mut [u8],
+    application: u16,
+) -> Result<(), Refusal>
+    ensures answer { answer_number result ≡ card_formatting titles.old rules.old }
     ensures titles_formatted { titles.new ≡ formatted_titles pair titles.old rules.old }
     ensures rules_formatted { rules.new ≡ formatted_rules pair titles.old rules.old application }
 {
     if titles.len() != 16000 {
-        return refusal::TITLES;
+        return Err(Refusal::Titles);
     }
     if rules.len() != 32000 {
-        return refusal::RULES;
+        return Err(Refusal::Rules);
     }
     fresh_table(titles, head::titles_identifier(pair), 0x10, 0, 16, 0x01);
     fresh_table(
@@ -83,5 +80,5 @@ pub fn format_card(pair: Pair, titles: &mut [u8], rules: &mut [u8], application:
         32,
         0x02,
     );
-    0
+    Ok(())
 }

@@ -5,6 +5,6 @@ pub mod by_title;
 pub mod card;
 pub mod copies;
 pub mod format;
-pub mod heads;
 pub mod ledger;
+pub mod shop;
 pub mod tally;

@@ -1,32 +1,23 @@
 // The tally: how many copies of a title are on a card.
-ghost use Rattle.std.specs.Prelude.{◌≡◌};
-ghost use Rattle.tables.specs.Tally.{tally_answer, tallied};
+ghost use Rattle.std.specs.Prelude.{◌≡◌, [], ◌∷◌};
+ghost use Rattle.formats.specs.Refusal.{answer_of};
+ghost use Rattle.tables.specs.Tally.{tallied};
 
+use crate::card::Card;
 use crate::copies;
 use formats::facts::ContentId;
 use formats::head::Pair;
-use formats::{facts, head, refusal};
+use formats::refusal::Refusal;
+use formats::{facts, head};
 
 // The number of copies, or the refusal, 4, 8 or 9.
-#[derive(Clone, Copy)]
-pub enum Tallied {
-    Copies(u64),
-    Refused(u64),
-}
-
-pub fn tally(pair: Pair, titles: &[u8], rules: &[u8], content: ContentId) -> Tallied
-    ensures { tally_answer result ≡ tallied pair titles.now rules.now content.0 }
+pub fn tally(pair: Pair, card: Card, content: ContentId) -> Result<u64, Refusal>
+    ensures { answer_of (λ n. n ∷ []) result ≡ tallied pair card.entry.titles.now card.entry.rules.now content.0 }
 {
     if !facts::is_numbered(content.0) {
-        return Tallied::Refused(refusal::CONTENT_ID);
+        return Err(Refusal::ContentId);
     }
-    let w = head::check_titles(pair, titles);
-    if w != 0 {
-        return Tallied::Refused(w);
-    }
-    let w = head::check_rules(pair, rules);
-    if w != 0 {
-        return Tallied::Refused(w);
-    }
-    Tallied::Copies(copies::count(titles, rules, content))
+    head::check_titles(pair, card.titles)?;
+    head::check_rules(pair, card.rules)?;
+    Ok(copies::count(card, content))
 }

@@ -4,4 +4,4 @@ use Rattle.tables.proofs.PerTitle.{Tallied}
 use Rattle.tables.proofs.by_title.tallies.Given as goal
 
 abbrev pub invariant-loop-k : goal.invariant-loop-k
-invariant-loop-k l = Tallied l.titles l.rules l.k l.counts
+invariant-loop-k l = Tallied l.card.titles.now l.card.rules.now l.k l.counts

@@ -6,4 +6,4 @@ use Rattle.tables.proofs.Counting.{Counted}
 use Rattle.tables.proofs.copies.any.Given as goal
 
 abbrev pub invariant-loop-k : goal.invariant-loop-k
-invariant-loop-k l = Counted (copy_at l.content.0 l.titles l.rules) (3 * l.k + 1) 0
+invariant-loop-k l = Counted (copy_at l.content.0 l.card.titles.now l.card.rules.now) (3 * l.k + 1) 0

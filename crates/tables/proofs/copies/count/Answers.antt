@@ -14,7 +14,7 @@ loop-k-init c = start _
 
 pub overflow_add-n : goal.overflow_add-n
 overflow_add-n c =
-    let few = at_most_three c.args.content.0 c.args.titles.now c.args.rules.now (3 * c.loop-k.k + 1) in
+    let few = at_most_three c.args.content.0 c.args.card.titles.now c.args.card.rules.now (3 * c.loop-k.k + 1) in
     omega (arith, c.in_three-n.ensures)
 
 pub loop-k-preserved : goal.loop-k-preserved

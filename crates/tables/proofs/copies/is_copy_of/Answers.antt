@@ -1,23 +1,25 @@
 -- `tables::copies::is_copy_of` meets its contract.
 -- Assumes nothing.
-use mathlib.Core.Path.{sym, ap, ◌∙◌}
-use mathlib.Core.Bool.{not}
-use Rattle.formats.proofs.facts.Laws.{numbered_range}
-use Rattle.formats.proofs.half.Laws.{not_numbered}
-use Rattle.tables.proofs.Counting.{not_held, other_id, reserved, by_rule}
+use Rattle.std.proofs.Common.{sym, ap, ◌∙◌, not, true≢false}
+use borrow.Author.Tests.{eqb-true, eqb-false, not-true, not-false}
+use Rattle.tables.proofs.Counting.{not_held, reserved, by_rule}
 use Rattle.tables.proofs.copies.is_copy_of.Goals as goal
+use Rattle.tables.proofs.copies.is_copy_of.Goals.{then-is_flagged, else-is_flagged}
 
-pub returns-then-not-is_numbered : goal.returns-then-not-is_numbered
-returns-then-not-is_numbered c = not_held _ _ _ (not_numbered _ _ (sym c.is_numbered.ensures ∙ c.if-not-is_numbered.true))
+pub returns-then-cci-ne1 : goal.returns-then-cci-ne1
+returns-then-cci-ne1 c =
+    elim c.if-is_flagged.branch [
+      | then-is_flagged w ↦
+          let other = eqb-false _ _ (not-true _ (sym w.value-is ∙ c.if-cci-ne1.true)) in
+          ap not c.usable.ensures
+          ∙ by_rule _ _ _ (sym c.is_flagged.ensures ∙ w.if-is_flagged.true) (λ e. other (w.cci.ensures ∙ e))
+      | else-is_flagged w ↦ absurd (true≢false (sym c.if-cci-ne1.true ∙ w.value-is ∙ w.if-is_flagged.false))
+    ]
 
-pub returns-then-usable_id-id : goal.returns-then-usable_id-id
-returns-then-usable_id-id c = other_id _ _ _ (λ e. c.if-usable_id-id.true (c.usable_id.ensures ∙ e))
-
-pub returns-then-cci-eq1 : goal.returns-then-cci-eq1
-returns-then-cci-eq1 c = reserved _ _ _ (sym c.cci.ensures ∙ c.if-cci-eq1.true)
-
-pub returns : goal.returns
-returns c =
-    let (some, few) = numbered_range _ (sym c.is_numbered.ensures ∙ c.if-not-is_numbered.false) in
-    ap not c.usable.ensures
-    ∙ by_rule _ _ _ some few (sym c.usable_id.ensures ∙ c.if-usable_id-id.false) (λ e. c.if-cci-eq1.false (c.cci.ensures ∙ e))
+pub returns-else-cci-ne1 : goal.returns-else-cci-ne1
+returns-else-cci-ne1 c =
+    c.if-cci-ne1.false
+    ∙ elim c.if-is_flagged.branch [
+      | then-is_flagged w ↦ reserved _ _ _ (sym w.cci.ensures ∙ eqb-true _ _ (not-false _ (sym w.value-is ∙ c.if-cci-ne1.false)))
+      | else-is_flagged w ↦ not_held _ _ _ (sym w.if-is_flagged.false ∙ c.is_flagged.ensures)
+    ]

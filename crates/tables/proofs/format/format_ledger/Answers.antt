@@ -26,4 +26,4 @@ returns-clause-ledger_formatted c =
     let w = wrote_field 2 a.application (wrote_start 0 before (omega arith)) (omega arith) c.write.ensures in
     let v = wrote_field 2 a.rows w (omega arith) c.write-2.ensures in
     let n : length before - 4 ≡ 20 + 24 * a.rows = omega arith in
-    cleared_behind v c.clear.ensures ∙ rw n (changed _ _ done refl)
+    cleared_behind v (c.fill.ensures.after (λ y e. e)) ∙ rw n (changed _ _ done refl)

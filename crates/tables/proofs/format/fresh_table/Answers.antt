@@ -19,4 +19,4 @@ returns c =
     let w4 = wrote_field 2 a.application w3 (omega arith) c.write-3.ensures in
     let w5 = wrote_field 2 999 w4 (omega arith) c.write-4.ensures in
     let w6 = wrote_byte a.mark (wrote_byte a.width w5 (omega arith)) (omega arith) in
-    cleared_behind w6 c.clear.ensures
+    cleared_behind w6 (c.fill.ensures.after (λ y e. e))

@@ -1,7 +1,7 @@
--- `tables::heads::check` meets its contract.
+-- `tables::shop::Shop::check_heads` meets its contract.
 -- Assumes nothing.
 use Prim.Native.Nat.{ℕ}
-use mathlib.Core.Path.{◌≡◌, sym, ap, ◌∙◌}
+use mathlib.Core.Path.{◌≡◌, refl, sym, ap, ◌∙◌}
 use mathlib.Core.Bool.{true, ◌&&◌}
 use native.Mathlib.Omega.{arith}
 use lib.Dec.{eqb}
@@ -12,7 +12,8 @@ use Rattle.calls.specs.Buffers.{Buffers}
 use Rattle.calls.specs.Refusal.{first}
 use Rattle.calls.specs.Conditions.{all_head_conditions}
 use Rattle.calls.proofs.Refusals.{holds, answers, answers_last}
-use Rattle.tables.proofs.heads.check.Goals as goal
+use Rattle.formats.proofs.refusal.Laws.{some_number, handed_on}
+use Rattle.tables.proofs.shop.Shop.check_heads.Goals as goal
 
 module _ (pair : Pair) (b : Buffers) where
   ledger_wrong : {w : ℕ} → w ≡ ledger_answer b.ledger → (w ≡ 0 → ⊥) → w ≡ first (all_head_conditions pair b)
@@ -32,13 +33,17 @@ module _ (pair : Pair) (b : Buffers) where
         (answers_last 9 (rules_pass pair b.rules && eqb (rules_application b.rules) (ledger_application b.ledger))
         (r ∙ ap (λ (n : ℕ). rules_answer_for pair n b.rules) m)))
 
-pub returns-then-w-ne0 : goal.returns-then-w-ne0
-returns-then-w-ne0 c = ledger_wrong _ _ c.check_ledger-w.ensures c.if-w-ne0.true
+pub returns-in_err-check_ledger : goal.returns-in_err-check_ledger
+returns-in_err-check_ledger c =
+    handed_on c.from_residual.result _ c.from_residual.ensures.1
+    ∙ ledger_wrong _ _ c.in_err-check_ledger.ensures (some_number _)
 
-pub returns-then-w-ne0-2 : goal.returns-then-w-ne0-2
-returns-then-w-ne0-2 c = titles_wrong _ _ c.check_ledger-w.ensures c.if-w-ne0.false c.check_titles-w.ensures c.if-w-ne0-2.true
+pub returns-in_err-check_titles : goal.returns-in_err-check_titles
+returns-in_err-check_titles c =
+    handed_on c.from_residual-in_err-check_titles.result _ c.from_residual-in_err-check_titles.ensures.1
+    ∙ titles_wrong _ _ c.in_ok-check_ledger.ensures refl c.in_err-check_titles.ensures (some_number _)
 
 pub returns : goal.returns
 returns c =
-    rules_last _ _ c.check_ledger-w.ensures c.if-w-ne0.false c.check_titles-w.ensures c.if-w-ne0-2.false
+    rules_last _ _ c.in_ok-check_ledger.ensures refl c.in_ok-check_titles.ensures refl
     c.ledger_application.ensures c.check_rules_for.ensures
