@@ -6,6 +6,11 @@ use mathlib.Core.Logic.{◌≢◌}
 use mathlib.Core.List.{◌++◌, append_assoc}
 use mathlib.Core.Bool.{true}
 use Rattle.formats.specs.declared.head.Pair.{Pair}
+use Rattle.std.specs.Prelude.{Result}
+use Rattle.std.specs.Result.{IsErrAnd}
+use Rattle.formats.specs.Refusal.{number_of, answer_number}
+use Rattle.formats.specs.declared.refusal.Refusal.{Refusal}
+use Rattle.formats.proofs.refusal.Laws.{some_number, handed_on}
 use Rattle.formats.specs.Row.{state_answer}
 use Rattle.formats.specs.declared.row.RowState.{RowState}
 use Rattle.formats.proofs.row.Laws.{same_state}
@@ -67,3 +72,14 @@ module _ (pair : Pair) (k : Request) (b : Buffers) {w : ℕ} (e : w ≡ first (a
       next_stage (argument_conditions k ++ head_conditions pair k b) (state_conditions pair k b)
       (both_refuse (argument_conditions k) (head_conditions pair k b) (argument_numbers k) (head_numbers pair k b)) (sym e ∙ zero) q
       ∙ apart
+
+-- AT THE EXIT OF A `?`, which hands on the refusal v of a stage
+module _ (pair : Pair) (k : Request) (b : Buffers) (r : Result (Unit {0}) Refusal) (v : Refusal) (h : IsErrAnd r (λ y. y ≡ v)) where
+  pub exit_arguments : number_of v ≡ first (argument_conditions k) → answer_number r ≡ refusal pair k b
+  exit_arguments e = handed_on r v h ∙ by_arguments pair k b e (some_number v)
+
+  pub exit_heads : 0 ≡ first (argument_conditions k) → number_of v ≡ first (head_conditions pair k b) → answer_number r ≡ refusal pair k b
+  exit_heads e q = handed_on r v h ∙ by_heads pair k b e refl q (some_number v)
+
+  pub exit_before : number_of v ≡ first (argument_conditions k ++ head_conditions pair k b) → answer_number r ≡ refusal pair k b
+  exit_before e = handed_on r v h ∙ refused_before pair k b e (some_number v)

@@ -1,50 +1,45 @@
 // The refusals of check-out: 4, 5, 7 to 12.
 ghost use Rattle.std.specs.Prelude.{◌≡◌};
+ghost use Rattle.formats.specs.Refusal.{answer_number};
 ghost use Rattle.formats.specs.declared.head.Pair.{Pair};
 ghost use Rattle.requests.specs.declared.request.Request.TheVariants.{CheckOut};
-ghost use Rattle.calls.specs.Buffers.{buffers_of};
 ghost use Rattle.calls.specs.Refusal.{first};
 ghost use Rattle.calls.specs.Conditions.{state_conditions};
 ghost use Rattle.calls.specs.Perform.{refusal};
+ghost use Rattle.tables.specs.Shop.{lent};
 
-use crate::refusal;
+use formats::entry::EntryKind;
 use formats::facts::{ContentId, EntryNumber};
 use formats::head::Pair;
-use tables::{card, ledger};
+use formats::refusal::Refusal;
+use formats::row::RowState;
+use tables::ledger;
+use tables::shop::Shop;
 
-fn state(ledger: &[u8], titles: &[u8], rules: &[u8], content: ContentId, entry: EntryNumber) -> u64
-    ensures { (pair : Pair) → result ≡ first (state_conditions pair (CheckOut content entry)
-        (buffers_of ledger.now titles.now rules.now)) }
+#[tactic(auto, unfolding(calls::specs::Refusal::first))]
+fn state(shop: Shop, content: ContentId, entry: EntryNumber) -> Result<(), Refusal>
+    ensures { (pair : Pair) → answer_number result ≡ first (state_conditions pair (CheckOut content entry) (lent shop.entry)) }
 {
-    let kind = card::kind(titles, rules, entry);
-    if !card::is_free(kind) {
-        return refusal::KIND_OF_ENTRY;
+    if shop.card.kind(entry) != EntryKind::Free {
+        return Err(Refusal::KindOfEntry);
     }
-    let row = ledger::state(ledger, content);
-    if !ledger::is_here(row) {
-        return refusal::STATE_OF_ROW;
-    }
-    let facts = ledger::here_facts(row);
+    let RowState::Here(facts) = ledger::state(shop.ledger, content) else {
+        return Err(Refusal::StateOfRow);
+    };
     if facts.permits == 0 {
-        return refusal::NOTHING_LEFT;
+        return Err(Refusal::NothingLeft);
     }
-    0
+    Ok(())
 }
 
 pub fn refusal(
     pair: Pair,
-    ledger: &[u8],
-    titles: &[u8],
-    rules: &[u8],
+    shop: Shop,
     content: ContentId,
     entry: EntryNumber,
-) -> u64
-    ensures { result ≡ refusal pair (CheckOut content entry)
-        (buffers_of ledger.now titles.now rules.now) }
+) -> Result<(), Refusal>
+    ensures { answer_number result ≡ refusal pair (CheckOut content entry) (lent shop.entry) }
 {
-    let w = crate::before_both(pair, ledger, titles, rules, content, entry);
-    if w != 0 {
-        return w;
-    }
-    state(ledger, titles, rules, content, entry)
+    crate::before_both(pair, shop, content, entry)?;
+    state(shop, content, entry)
 }

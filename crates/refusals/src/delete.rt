@@ -1,64 +1,50 @@
 // The refusals of delete: 5, 7 to 11, and 16.
 ghost use Rattle.std.specs.Prelude.{◌≡◌};
+ghost use Rattle.formats.specs.Refusal.{answer_number};
 ghost use Rattle.requests.specs.declared.request.Request.TheVariants.{Delete};
-ghost use Rattle.calls.specs.Buffers.{buffers_of};
 ghost use Rattle.calls.specs.Refusal.{first};
 ghost use Rattle.calls.specs.Conditions.{state_conditions};
 ghost use Rattle.calls.specs.Perform.{refusal};
+ghost use Rattle.tables.specs.Shop.{lent};
 
-use crate::refusal;
+use formats::entry::EntryKind;
 use formats::facts::{EntryNumber, Fillers};
 use formats::head::Pair;
-use tables::{card, ledger};
+use formats::refusal::Refusal;
+use formats::row::RowState;
+use tables::ledger;
+use tables::shop::Shop;
 
+#[tactic(auto, unfolding(calls::specs::Refusal::first))]
 // Of a copy the row is not looked at, and only the title half is to be wiped.
-fn state(
-    pair: Pair,
-    ledger: &[u8],
-    titles: &[u8],
-    rules: &[u8],
-    entry: EntryNumber,
-    fillers: Fillers,
-) -> u64
-    ensures { result ≡ first (state_conditions pair (Delete entry fillers)
-        (buffers_of ledger.now titles.now rules.now)) }
+fn state(pair: Pair, shop: Shop, entry: EntryNumber, fillers: Fillers) -> Result<(), Refusal>
+    ensures { answer_number result ≡ first (state_conditions pair (Delete entry fillers) (lent shop.entry)) }
 {
-    let kind = card::kind(titles, rules, entry);
-    if !card::is_full(kind) {
-        if !card::is_copy(kind) {
-            return refusal::KIND_OF_ENTRY;
+    let kind = shop.card.kind(entry);
+    if kind != EntryKind::Full {
+        if kind != EntryKind::Copy {
+            return Err(Refusal::KindOfEntry);
         }
-        if card::leaves_title_key(titles, entry, fillers.f1) {
-            return refusal::FILLER;
+        if shop.card.leaves_title_key(entry, fillers.f1) {
+            return Err(Refusal::Filler);
         }
-        return 0;
+        return Ok(());
     }
-    if !ledger::is_away(ledger::state(ledger, card::content(titles, entry))) {
-        return refusal::STATE_OF_ROW;
+    let RowState::Away = ledger::state(shop.ledger, shop.card.content(entry)) else {
+        return Err(Refusal::StateOfRow);
+    };
+    if shop.card.leaves_title_key(entry, fillers.f1) {
+        return Err(Refusal::Filler);
     }
-    if card::leaves_title_key(titles, entry, fillers.f1) {
-        return refusal::FILLER;
+    if shop.card.refuses_f2(pair, entry, fillers.f2) {
+        return Err(Refusal::Filler);
     }
-    if card::refuses_f2(pair, rules, entry, fillers.f2) {
-        return refusal::FILLER;
-    }
-    0
+    Ok(())
 }
 
-pub fn refusal(
-    pair: Pair,
-    ledger: &[u8],
-    titles: &[u8],
-    rules: &[u8],
-    entry: EntryNumber,
-    fillers: Fillers,
-) -> u64
-    ensures { result ≡ refusal pair (Delete entry fillers)
-        (buffers_of ledger.now titles.now rules.now) }
+pub fn refusal(pair: Pair, shop: Shop, entry: EntryNumber, fillers: Fillers) -> Result<(), Refusal>
+    ensures { answer_number result ≡ refusal pair (Delete entry fillers) (lent shop.entry) }
 {
-    let w = crate::before_entry(pair, ledger, titles, rules, entry);
-    if w != 0 {
-        return w;
-    }
-    state(pair, ledger, titles, rules, entry, fillers)
+    crate::before_entry(pair, shop, entry)?;
+    state(pair, shop, entry, fillers)
 }

@@ -3,14 +3,16 @@
 #![tactic(auto)]
 
 ghost use Rattle.std.specs.Prelude.{◌≡◌};
-ghost use Rattle.calls.specs.Buffers.{buffers_of};
+ghost use Rattle.formats.specs.Refusal.{answer_number};
 ghost use Rattle.calls.specs.Refusal.{first};
+ghost use Rattle.tables.specs.Shop.{lent};
 ghost use Rattle.refusals.specs.Before.{entry_conditions, title_conditions};
 
 use formats::facts;
 use formats::facts::{ContentId, EntryNumber};
 use formats::head::Pair;
-use tables::heads;
+use formats::refusal::Refusal;
+use tables::shop::Shop;
 
 pub mod check_in;
 pub mod check_out;
@@ -18,36 +20,31 @@ pub mod delete;
 pub mod move_in;
 pub mod move_out;
 pub mod record;
-pub mod refusal;
 pub mod register;
 
 // What a call that names an entry tests before it looks there: 5, then 7, 8 and 9.
 #[tactic(auto, unfolding(calls::specs::Refusal::first))]
-fn before_entry(pair: Pair, ledger: &[u8], titles: &[u8], rules: &[u8], entry: EntryNumber) -> u64
-    ensures { result ≡ first (entry_conditions pair entry.0
-        (buffers_of ledger.now titles.now rules.now)) }
+fn before_entry(pair: Pair, shop: Shop, entry: EntryNumber) -> Result<(), Refusal>
+    ensures { answer_number result ≡ first (entry_conditions pair entry.0 (lent shop.entry)) }
 {
     if !facts::is_numbered(entry.0) {
-        return formats::refusal::ENTRY_NUMBER;
+        return Err(Refusal::EntryNumber);
     }
-    heads::check(pair, ledger, titles, rules)
+    shop.check_heads(pair)
 }
 
 // And one that names a title too: 4, and then the same.
 #[tactic(auto, unfolding(calls::specs::Refusal::first))]
 fn before_both(
     pair: Pair,
-    ledger: &[u8],
-    titles: &[u8],
-    rules: &[u8],
+    shop: Shop,
     content: ContentId,
     entry: EntryNumber,
-) -> u64
-    ensures { result ≡ first (title_conditions pair content.0 entry.0
-        (buffers_of ledger.now titles.now rules.now)) }
+) -> Result<(), Refusal>
+    ensures { answer_number result ≡ first (title_conditions pair content.0 entry.0 (lent shop.entry)) }
 {
     if !facts::is_numbered(content.0) {
-        return formats::refusal::CONTENT_ID;
+        return Err(Refusal::ContentId);
     }
-    before_entry(pair, ledger, titles, rules, entry)
+    before_entry(pair, shop, entry)
 }

@@ -1,55 +1,51 @@
 // The refusals of move in: 4, 5, 7 to 12, and 14. Trigger and rights are those of the row; the hash is not tested.
 ghost use Rattle.std.specs.Prelude.{◌≡◌, ℕ};
+ghost use Rattle.formats.specs.Refusal.{answer_number};
 ghost use Rattle.formats.specs.declared.head.Pair.{Pair};
 ghost use Rattle.requests.specs.declared.request.Request.TheVariants.{MoveIn};
-ghost use Rattle.calls.specs.Buffers.{buffers_of};
 ghost use Rattle.calls.specs.Refusal.{first};
 ghost use Rattle.calls.specs.Conditions.{state_conditions};
 ghost use Rattle.calls.specs.Perform.{refusal};
+ghost use Rattle.tables.specs.Shop.{lent};
 
-use crate::refusal;
 use calls::count;
+use formats::entry::EntryKind;
 use formats::facts::{ContentId, EntryNumber};
 use formats::head::Pair;
-use tables::{card, copies, ledger};
+use formats::refusal::Refusal;
+use formats::row::RowState;
+use tables::shop::Shop;
+use tables::{copies, ledger};
 
+#[tactic(auto, unfolding(calls::specs::Refusal::first))]
 // The card is searched for a copy last, when nothing else refuses.
-fn state(ledger: &[u8], titles: &[u8], rules: &[u8], content: ContentId, entry: EntryNumber) -> u64
-    ensures { (pair : Pair) (hash : ℕ) → result ≡ first (state_conditions pair (MoveIn content entry hash)
-        (buffers_of ledger.now titles.now rules.now)) }
+fn state(shop: Shop, content: ContentId, entry: EntryNumber) -> Result<(), Refusal>
+    ensures { (pair : Pair) (hash : ℕ) → answer_number result
+        ≡ first (state_conditions pair (MoveIn content entry hash) (lent shop.entry)) }
 {
-    let kind = card::kind(titles, rules, entry);
-    if !card::is_free(kind) {
-        return refusal::KIND_OF_ENTRY;
+    if shop.card.kind(entry) != EntryKind::Free {
+        return Err(Refusal::KindOfEntry);
     }
-    let row = ledger::state(ledger, content);
-    if !ledger::is_here(row) {
-        return refusal::STATE_OF_ROW;
-    }
-    let facts = ledger::here_facts(row);
+    let RowState::Here(facts) = ledger::state(shop.ledger, content) else {
+        return Err(Refusal::StateOfRow);
+    };
     if count::may_not_move(facts.trigger, facts.rights) {
-        return refusal::NOTHING_LEFT;
+        return Err(Refusal::NothingLeft);
     }
-    if !copies::any(titles, rules, content) {
-        return 0;
+    if copies::any(shop.card, content) {
+        return Err(Refusal::CopyOut);
     }
-    refusal::COPY_OUT
+    Ok(())
 }
 
 pub fn refusal(
     pair: Pair,
-    ledger: &[u8],
-    titles: &[u8],
-    rules: &[u8],
+    shop: Shop,
     content: ContentId,
     entry: EntryNumber,
-) -> u64
-    ensures { (hash : ℕ) → result ≡ refusal pair (MoveIn content entry hash)
-        (buffers_of ledger.now titles.now rules.now) }
+) -> Result<(), Refusal>
+    ensures { (hash : ℕ) → answer_number result ≡ refusal pair (MoveIn content entry hash) (lent shop.entry) }
 {
-    let w = crate::before_both(pair, ledger, titles, rules, content, entry);
-    if w != 0 {
-        return w;
-    }
-    state(ledger, titles, rules, content, entry)
+    crate::before_both(pair, shop, content, entry)?;
+    state(shop, content, entry)
 }

@@ -1,64 +1,59 @@
 // The refusals of move out: 5, 7 to 13, and 16. Trigger, rights and hash are those of the entry.
 ghost use Rattle.std.specs.Prelude.{◌≡◌};
+ghost use Rattle.formats.specs.Refusal.{answer_number};
 ghost use Rattle.requests.specs.declared.request.Request.TheVariants.{MoveOut};
-ghost use Rattle.calls.specs.Buffers.{buffers_of};
 ghost use Rattle.calls.specs.Refusal.{first};
 ghost use Rattle.calls.specs.Conditions.{state_conditions};
 ghost use Rattle.calls.specs.Perform.{refusal};
+ghost use Rattle.tables.specs.Shop.{lent};
 
-use crate::refusal;
+use formats::entry::EntryKind;
 use formats::facts::{EntryNumber, Fillers};
 use formats::head::Pair;
-use tables::{card, ledger};
+use formats::refusal::Refusal;
+use formats::row::RowState;
+use tables::ledger;
+use tables::shop::Shop;
 
+#[tactic(auto, unfolding(calls::specs::Refusal::first, formats::specs::Entry::entry_facts))]
 fn state(
     pair: Pair,
-    ledger: &[u8],
-    titles: &[u8],
-    rules: &[u8],
+    shop: Shop,
     entry: EntryNumber,
     hash: u64,
     fillers: Fillers,
-) -> u64
-    ensures { result ≡ first (state_conditions pair (MoveOut entry hash fillers)
-        (buffers_of ledger.now titles.now rules.now)) }
+) -> Result<(), Refusal>
+    ensures { answer_number result ≡ first (state_conditions pair (MoveOut entry hash fillers) (lent shop.entry)) }
 {
-    if !card::is_full(card::kind(titles, rules, entry)) {
-        return refusal::KIND_OF_ENTRY;
+    if shop.card.kind(entry) != EntryKind::Full {
+        return Err(Refusal::KindOfEntry);
     }
-    if !ledger::is_away(ledger::state(ledger, card::content(titles, entry))) {
-        return refusal::STATE_OF_ROW;
+    let RowState::Away = ledger::state(shop.ledger, shop.card.content(entry)) else {
+        return Err(Refusal::StateOfRow);
+    };
+    if shop.card.may_not_move(entry) {
+        return Err(Refusal::NothingLeft);
     }
-    if card::may_not_move(rules, entry) {
-        return refusal::NOTHING_LEFT;
+    if hash != shop.card.hash(entry) {
+        return Err(Refusal::Hash);
     }
-    if hash != card::hash(rules, entry) {
-        return refusal::HASH;
+    if shop.card.leaves_title_key(entry, fillers.f1)
+        || shop.card.refuses_f2(pair, entry, fillers.f2)
+    {
+        return Err(Refusal::Filler);
     }
-    if card::leaves_title_key(titles, entry, fillers.f1) {
-        return refusal::FILLER;
-    }
-    if card::refuses_f2(pair, rules, entry, fillers.f2) {
-        return refusal::FILLER;
-    }
-    0
+    Ok(())
 }
 
 pub fn refusal(
     pair: Pair,
-    ledger: &[u8],
-    titles: &[u8],
-    rules: &[u8],
+    shop: Shop,
     entry: EntryNumber,
     hash: u64,
     fillers: Fillers,
-) -> u64
-    ensures { result ≡ refusal pair (MoveOut entry hash fillers)
-        (buffers_of ledger.now titles.now rules.now) }
+) -> Result<(), Refusal>
+    ensures { answer_number result ≡ refusal pair (MoveOut entry hash fillers) (lent shop.entry) }
 {
-    let w = crate::before_entry(pair, ledger, titles, rules, entry);
-    if w != 0 {
-        return w;
-    }
-    state(pair, ledger, titles, rules, entry, hash, fillers)
+    crate::before_entry(pair, shop, entry)?;
+    state(pair, shop, entry, hash, fillers)
 }

@@ -1,68 +1,63 @@
 // The refusals of record: 4 to 11. The hash is not tested.
 ghost use Rattle.std.specs.Prelude.{◌≡◌, ℕ};
+ghost use Rattle.formats.specs.Refusal.{answer_number};
 ghost use Rattle.formats.specs.declared.facts.Facts.{Facts};
 ghost use Rattle.formats.specs.declared.head.Pair.{Pair};
 ghost use Rattle.requests.specs.declared.request.Request.TheVariants.{Record};
-ghost use Rattle.calls.specs.Buffers.{buffers_of};
 ghost use Rattle.calls.specs.Refusal.{first};
 ghost use Rattle.calls.specs.Conditions.{argument_conditions, state_conditions};
 ghost use Rattle.calls.specs.Perform.{refusal};
+ghost use Rattle.tables.specs.Shop.{lent};
 
-use crate::refusal;
+use formats::entry::EntryKind;
 use formats::facts;
 use formats::facts::{ContentId, EntryNumber, Facts};
 use formats::head::Pair;
-use tables::{card, heads, ledger};
+use formats::refusal::Refusal;
+use formats::row::RowState;
+use tables::ledger;
+use tables::shop::Shop;
 
 #[tactic(auto, unfolding(calls::specs::Refusal::first))]
-fn arguments(content: ContentId, entry: EntryNumber, facts: Facts) -> u64
-    ensures { (hash : ℕ) → result ≡ first (argument_conditions (Record content entry facts hash)) }
+fn arguments(content: ContentId, entry: EntryNumber, facts: Facts) -> Result<(), Refusal>
+    ensures { (hash : ℕ) → answer_number result ≡ first (argument_conditions (Record content entry facts hash)) }
 {
     if !facts::is_numbered(content.0) {
-        return formats::refusal::CONTENT_ID;
+        return Err(Refusal::ContentId);
     }
     if !facts::is_numbered(entry.0) {
-        return formats::refusal::ENTRY_NUMBER;
+        return Err(Refusal::EntryNumber);
     }
     if !facts::are_facts(facts) {
-        return formats::refusal::FACTS;
+        return Err(Refusal::Facts);
     }
-    0
+    Ok(())
 }
 
-fn state(ledger: &[u8], titles: &[u8], rules: &[u8], content: ContentId, entry: EntryNumber) -> u64
-    ensures { (pair : Pair) (facts : Facts) (hash : ℕ) → result ≡ first (state_conditions pair (Record content entry facts hash)
-        (buffers_of ledger.now titles.now rules.now)) }
+#[tactic(auto, unfolding(calls::specs::Refusal::first))]
+fn state(shop: Shop, content: ContentId, entry: EntryNumber) -> Result<(), Refusal>
+    ensures { (pair : Pair) (facts : Facts) (hash : ℕ) → answer_number result
+        ≡ first (state_conditions pair (Record content entry facts hash) (lent shop.entry)) }
 {
-    let kind = card::kind(titles, rules, entry);
-    if !card::is_free(kind) {
-        return refusal::KIND_OF_ENTRY;
+    if shop.card.kind(entry) != EntryKind::Free {
+        return Err(Refusal::KindOfEntry);
     }
-    if !ledger::is_empty(ledger::state(ledger, content)) {
-        return refusal::STATE_OF_ROW;
-    }
-    0
+    let RowState::Empty = ledger::state(shop.ledger, content) else {
+        return Err(Refusal::StateOfRow);
+    };
+    Ok(())
 }
 
 pub fn refusal(
     pair: Pair,
-    ledger: &[u8],
-    titles: &[u8],
-    rules: &[u8],
+    shop: Shop,
     content: ContentId,
     entry: EntryNumber,
     facts: Facts,
-) -> u64
-    ensures { (hash : ℕ) → result ≡ refusal pair (Record content entry facts hash)
-        (buffers_of ledger.now titles.now rules.now) }
+) -> Result<(), Refusal>
+    ensures { (hash : ℕ) → answer_number result ≡ refusal pair (Record content entry facts hash) (lent shop.entry) }
 {
-    let w = arguments(content, entry, facts);
-    if w != 0 {
-        return w;
-    }
-    let w = heads::check(pair, ledger, titles, rules);
-    if w != 0 {
-        return w;
-    }
-    state(ledger, titles, rules, content, entry)
+    arguments(content, entry, facts)?;
+    shop.check_heads(pair)?;
+    state(shop, content, entry)
 }

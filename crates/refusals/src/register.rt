@@ -1,41 +1,37 @@
 // The refusals of register: 4, 6, 7 and 11. It is lent the ledger only.
 ghost use Rattle.std.specs.Prelude.{◌≡◌};
+ghost use Rattle.formats.specs.Refusal.{answer_number};
 ghost use Rattle.requests.specs.declared.request.Request.TheVariants.{Register};
 ghost use Rattle.calls.specs.Refusal.{first};
 ghost use Rattle.calls.specs.Conditions.{argument_conditions};
 ghost use Rattle.refusals.specs.Ledger.{RefusedByLedger};
 
-use crate::refusal;
 use formats::facts::{ContentId, Facts};
+use formats::refusal::Refusal;
+use formats::row::RowState;
 use formats::{facts, head};
 use tables::ledger;
 
 #[tactic(auto, unfolding(calls::specs::Refusal::first))]
-fn arguments(content: ContentId, facts: Facts) -> u64
-    ensures { result ≡ first (argument_conditions (Register content facts)) }
+fn arguments(content: ContentId, facts: Facts) -> Result<(), Refusal>
+    ensures { answer_number result ≡ first (argument_conditions (Register content facts)) }
 {
     if !facts::is_numbered(content.0) {
-        return formats::refusal::CONTENT_ID;
+        return Err(Refusal::ContentId);
     }
     if !facts::are_facts(facts) {
-        return formats::refusal::FACTS;
+        return Err(Refusal::Facts);
     }
-    0
+    Ok(())
 }
 
-pub fn refusal(ledger: &[u8], content: ContentId, facts: Facts) -> u64
-    ensures { RefusedByLedger (Register content facts) ledger.now result }
+pub fn refusal(ledger: &[u8], content: ContentId, facts: Facts) -> Result<(), Refusal>
+    ensures { RefusedByLedger (Register content facts) ledger.now (answer_number result) }
 {
-    let w = arguments(content, facts);
-    if w != 0 {
-        return w;
-    }
-    let w = head::check_ledger(ledger);
-    if w != 0 {
-        return w;
-    }
-    if !ledger::is_empty(ledger::state(ledger, content)) {
-        return refusal::STATE_OF_ROW;
-    }
-    0
+    arguments(content, facts)?;
+    head::check_ledger(ledger)?;
+    let RowState::Empty = ledger::state(ledger, content) else {
+        return Err(Refusal::StateOfRow);
+    };
+    Ok(())
 }

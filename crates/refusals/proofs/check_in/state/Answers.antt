@@ -6,36 +6,36 @@ use Rattle.formats.proofs.row.Laws.{same_state}
 use Rattle.calls.specs.Refusal.{first}
 use Rattle.refusals.proofs.check_in.state.Goals as goal
 
-pub returns-then-not-is_copy : goal.returns-then-not-is_copy
+pub returns-then-ne : goal.returns-then-ne
 unfolding first
-returns-then-not-is_copy c pair =
-    let kind = same_kind c.kind-kind.ensures in
+returns-then-ne c pair =
+    let kind = same_kind c.kind.ensures in
     grind arith
 
-pub returns-then-not-is_here : goal.returns-then-not-is_here
+pub returns-in_default : goal.returns-in_default
 unfolding first
-returns-then-not-is_here c pair =
-    let kind = same_kind c.kind-kind.ensures in
-    let row = same_state c.state-row.ensures in
+returns-in_default c pair =
+    let kind = same_kind c.kind.ensures in
+    let row = same_state c.state.ensures in
     grind arith
 
 pub returns-then-facts-eq14 : goal.returns-then-facts-eq14
 unfolding first
 returns-then-facts-eq14 c pair =
-    let kind = same_kind c.kind-kind.ensures in
-    let row = same_state c.state-row.ensures in
+    let kind = same_kind c.kind.ensures in
+    let row = same_state c.state.ensures in
     grind arith
 
 pub returns-then-leaves_title_key : goal.returns-then-leaves_title_key
 unfolding first
 returns-then-leaves_title_key c pair =
-    let kind = same_kind c.kind-kind.ensures in
-    let row = same_state c.state-row.ensures in
+    let kind = same_kind c.kind.ensures in
+    let row = same_state c.state.ensures in
     grind arith
 
 pub returns : goal.returns
 unfolding first
 returns c pair =
-    let kind = same_kind c.kind-kind.ensures in
-    let row = same_state c.state-row.ensures in
+    let kind = same_kind c.kind.ensures in
+    let row = same_state c.state.ensures in
     grind arith

@@ -6,9 +6,9 @@ use Rattle.formats.proofs.row.Laws.{same_state}
 use Rattle.calls.specs.Refusal.{first}
 use Rattle.refusals.proofs.delete.state.Goals as goal
 
-pub returns-then-not-is_copy : goal.returns-then-not-is_copy
+pub returns-then-ne-2 : goal.returns-then-ne-2
 unfolding first
-returns-then-not-is_copy c =
+returns-then-ne-2 c =
     let kind = same_kind c.kind-kind.ensures in
     grind arith
 
@@ -18,15 +18,15 @@ returns-then-leaves_title_key c =
     let kind = same_kind c.kind-kind.ensures in
     grind arith
 
-pub returns-then-not-is_full : goal.returns-then-not-is_full
+pub returns-then-ne : goal.returns-then-ne
 unfolding first
-returns-then-not-is_full c =
+returns-then-ne c =
     let kind = same_kind c.kind-kind.ensures in
     grind arith
 
-pub returns-then-not-is_away : goal.returns-then-not-is_away
+pub returns-in_default : goal.returns-in_default
 unfolding first
-returns-then-not-is_away c =
+returns-in_default c =
     let kind = same_kind c.kind-kind.ensures in
     let row = same_state c.state.ensures in
     grind arith

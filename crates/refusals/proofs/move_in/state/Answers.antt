@@ -6,36 +6,36 @@ use Rattle.formats.proofs.row.Laws.{same_state}
 use Rattle.calls.specs.Refusal.{first}
 use Rattle.refusals.proofs.move_in.state.Goals as goal
 
-pub returns-then-not-is_free : goal.returns-then-not-is_free
+pub returns-then-ne : goal.returns-then-ne
 unfolding first
-returns-then-not-is_free c pair hash =
-    let kind = same_kind c.kind-kind.ensures in
+returns-then-ne c pair hash =
+    let kind = same_kind c.kind.ensures in
     grind arith
 
-pub returns-then-not-is_here : goal.returns-then-not-is_here
+pub returns-in_default : goal.returns-in_default
 unfolding first
-returns-then-not-is_here c pair hash =
-    let kind = same_kind c.kind-kind.ensures in
-    let row = same_state c.state-row.ensures in
+returns-in_default c pair hash =
+    let kind = same_kind c.kind.ensures in
+    let row = same_state c.state.ensures in
     grind arith
 
 pub returns-then-may_not_move : goal.returns-then-may_not_move
 unfolding first
 returns-then-may_not_move c pair hash =
-    let kind = same_kind c.kind-kind.ensures in
-    let row = same_state c.state-row.ensures in
+    let kind = same_kind c.kind.ensures in
+    let row = same_state c.state.ensures in
     grind arith
 
-pub returns-then-not-any : goal.returns-then-not-any
+pub returns-then-any : goal.returns-then-any
 unfolding first
-returns-then-not-any c pair hash =
-    let kind = same_kind c.kind-kind.ensures in
-    let row = same_state c.state-row.ensures in
+returns-then-any c pair hash =
+    let kind = same_kind c.kind.ensures in
+    let row = same_state c.state.ensures in
     grind arith
 
 pub returns : goal.returns
 unfolding first
 returns c pair hash =
-    let kind = same_kind c.kind-kind.ensures in
-    let row = same_state c.state-row.ensures in
+    let kind = same_kind c.kind.ensures in
+    let row = same_state c.state.ensures in
     grind arith

@@ -7,15 +7,15 @@ use Rattle.formats.proofs.row.Laws.{same_state}
 use Rattle.calls.specs.Refusal.{first}
 use Rattle.refusals.proofs.move_out.state.Goals as goal
 
-pub returns-then-not-is_full : goal.returns-then-not-is_full
+pub returns-then-ne : goal.returns-then-ne
 unfolding first entry_facts
-returns-then-not-is_full c =
+returns-then-ne c =
     let kind = same_kind c.kind.ensures in
     grind arith
 
-pub returns-then-not-is_away : goal.returns-then-not-is_away
+pub returns-in_default : goal.returns-in_default
 unfolding first entry_facts
-returns-then-not-is_away c =
+returns-in_default c =
     let kind = same_kind c.kind.ensures in
     let row = same_state c.state.ensures in
     grind arith
@@ -37,13 +37,6 @@ returns-then-hash c =
 pub returns-then-leaves_title_key : goal.returns-then-leaves_title_key
 unfolding first entry_facts
 returns-then-leaves_title_key c =
-    let kind = same_kind c.kind.ensures in
-    let row = same_state c.state.ensures in
-    grind arith
-
-pub returns-then-refuses_f2 : goal.returns-then-refuses_f2
-unfolding first entry_facts
-returns-then-refuses_f2 c =
     let kind = same_kind c.kind.ensures in
     let row = same_state c.state.ensures in
     grind arith

@@ -6,22 +6,22 @@ use Rattle.formats.proofs.row.Laws.{same_state}
 use Rattle.calls.specs.Refusal.{first}
 use Rattle.refusals.proofs.record.state.Goals as goal
 
-pub returns-then-not-is_free : goal.returns-then-not-is_free
+pub returns-then-ne : goal.returns-then-ne
 unfolding first
-returns-then-not-is_free c pair facts hash =
-    let kind = same_kind c.kind-kind.ensures in
+returns-then-ne c pair facts hash =
+    let kind = same_kind c.kind.ensures in
     grind arith
 
-pub returns-then-not-is_empty : goal.returns-then-not-is_empty
+pub returns-in_default : goal.returns-in_default
 unfolding first
-returns-then-not-is_empty c pair facts hash =
-    let kind = same_kind c.kind-kind.ensures in
+returns-in_default c pair facts hash =
+    let kind = same_kind c.kind.ensures in
     let row = same_state c.state.ensures in
     grind arith
 
 pub returns : goal.returns
 unfolding first
 returns c pair facts hash =
-    let kind = same_kind c.kind-kind.ensures in
+    let kind = same_kind c.kind.ensures in
     let row = same_state c.state.ensures in
     grind arith

@@ -1,33 +1,32 @@
 -- `refusals::register::refusal` meets its contract, whatever the card is: arguments, the ledger's head, then the row.
 -- Assumes nothing.
-use Prim.Native.Nat.{ℕ}
-use mathlib.Core.Path.{◌≡◌, sym, ap, ◌∙◌}
-use mathlib.Core.Bool.{not}
-use mathlib.Core.List.{List, [], ◌∷◌}
+use Rattle.std.proofs.Common.{ℕ, ◌≡◌, List, [], ◌∷◌, refl, arith}
 use Rattle.formats.specs.Head.{ledger_passes, ledger_answer}
-use Rattle.calls.specs.Buffers.{is_empty}
+use Rattle.formats.proofs.row.Laws.{same_state}
 use Rattle.calls.specs.Refusal.{◌unless◌, first}
-use Rattle.calls.proofs.Refusals.{hit, skip, end, answers_last}
-use Rattle.refusals.proofs.Stages.{of_row, by_arguments, by_heads, by_state}
+use Rattle.calls.proofs.Refusals.{answers_last}
+use Rattle.refusals.proofs.Stages.{by_state, exit_arguments, exit_heads}
 use Rattle.refusals.proofs.register.refusal.Goals as goal
 
 -- the ledger's head is all that it tests of heads
 ledger_head : {w : ℕ} (l : List ℕ) → w ≡ ledger_answer l → w ≡ first (7 unless ledger_passes l ∷ [])
 ledger_head l = answers_last 7 (ledger_passes l)
 
-pub returns-then-w-ne0 : goal.returns-then-w-ne0
-returns-then-w-ne0 c pair titles rules = by_arguments _ _ _ c.arguments-w.ensures c.if-w-ne0.true
+pub returns-in_err-arguments : goal.returns-in_err-arguments
+returns-in_err-arguments c pair titles rules = exit_arguments _ _ _ _ _ c.from_residual.ensures.1 c.in_err-arguments.ensures
 
-pub returns-then-w-ne0-2 : goal.returns-then-w-ne0-2
-returns-then-w-ne0-2 c pair titles rules =
-    by_heads _ _ _ c.arguments-w.ensures c.if-w-ne0.false (ledger_head _ c.check_ledger-w.ensures) c.if-w-ne0-2.true
+pub returns-in_err-check_ledger : goal.returns-in_err-check_ledger
+returns-in_err-check_ledger c pair titles rules =
+    exit_heads _ _ _ _ _ c.from_residual-in_err-check_ledger.ensures.1 c.in_ok-arguments.ensures (ledger_head _ c.in_err-check_ledger.ensures)
 
-pub returns-then-not-is_empty : goal.returns-then-not-is_empty
-returns-then-not-is_empty c pair titles rules =
-    by_state _ _ _ c.arguments-w.ensures c.if-w-ne0.false (ledger_head _ c.check_ledger-w.ensures) c.if-w-ne0-2.false
-    (hit 11 _ _ (ap not (sym (of_row is_empty c.is_empty.ensures c.state.ensures) ∙ c.if-not-is_empty.true)))
+pub returns-in_default : goal.returns-in_default
+unfolding first
+returns-in_default c pair titles rules =
+    let row = same_state c.state.ensures in
+    by_state _ _ _ c.in_ok-arguments.ensures refl (ledger_head _ c.in_ok-check_ledger.ensures) refl (grind arith)
 
 pub returns : goal.returns
+unfolding first
 returns c pair titles rules =
-    by_state _ _ _ c.arguments-w.ensures c.if-w-ne0.false (ledger_head _ c.check_ledger-w.ensures) c.if-w-ne0-2.false
-    (skip 11 _ _ _ (ap not (sym (of_row is_empty c.is_empty.ensures c.state.ensures) ∙ c.if-not-is_empty.false)) end)
+    let row = same_state c.state.ensures in
+    by_state _ _ _ c.in_ok-arguments.ensures refl (ledger_head _ c.in_ok-check_ledger.ensures) refl (grind arith)
