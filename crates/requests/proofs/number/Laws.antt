@@ -18,11 +18,7 @@ use Rattle.formats.specs.Part.{put}
 use Rattle.formats.specs.Bytes.{Bytes}
 use Rattle.formats.proofs.Bytes.{Listed, none, more, bytes, listed, bytes_put}
 use Rattle.formats.proofs.Tests.{and_false, same_test}
-use Rattle.requests.specs.Number.{groups_in, groups, with_group, read_groups, exceeds, read_number, number_answer, written_answer, writing, written_to}
-use Rattle.requests.specs.declared.number.NumberRead.{NumberRead}
-use Rattle.requests.specs.declared.number.NumberRead.TheVariants.{Number, Refused}
-use Rattle.requests.specs.declared.number.Written.{Written}
-use Rattle.requests.specs.declared.number.Written.TheVariants.{Wrote, Refused as NotWritten}
+use Rattle.requests.specs.Number.{NumberRead, Number, Refused, Written, Wrote, NotWritten, groups_in, groups, with_group, read_groups, exceeds, read_number, number_answer, written_answer, writing, written_to}
 
 -- the count of groups allowed does not matter, once it is enough
 enough : (k m : ℕ) (b : Bool) (n : ℕ) → ltb n 128 ≡ b → n ≤ k → n ≤ m → groups_in k b n ≡ groups_in m b n

@@ -7,9 +7,9 @@ use borrow.Author.Tests.{eq-eqb, ne_eqb}
 use lib.ListN.{drop}
 use Rattle.requests.specs.Number.{read_number}
 use Rattle.requests.specs.Request.{limit, kind_limit, schema, Fault, with_value, read_arguments, as_request, read_request}
-use Rattle.requests.specs.declared.number.NumberRead.TheVariants.{Number, Refused as NoNumber}
+use Rattle.requests.specs.Number.{Number, Refused as NoNumber}
 use Rattle.requests.specs.declared.request.Argument.{Argument}
-use Rattle.requests.specs.declared.request.RequestRead.TheVariants.{Refused}
+use Rattle.requests.specs.Request.{Refused}
 
 -- the next argument
 module _ (a : Argument) (rest : List Argument) (s : List ℕ) where
