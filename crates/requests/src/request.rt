@@ -9,8 +9,8 @@ ghost use Rattle.requests.specs.Request.{remainder_of, writing_request, request_
 ghost use Rattle.requests.specs.Values.{Holds, arguments_values, arguments_answer};
 
 use crate::number;
-use formats::facts::{ContentId, EntryNumber, Facts, Fillers};
 use formats::facts;
+use formats::facts::{ContentId, EntryNumber, Facts, Fillers};
 use formats::refusal::Refusal;
 
 // The seven calls, with their arguments.

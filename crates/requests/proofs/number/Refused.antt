@@ -9,7 +9,7 @@ use native.Mathlib.Omega.{arith}
 use native.Mathlib.Decide.{dec_lt, ℕ_discrete}
 use borrow.Author.Tests.{ne_eqb}
 use lib.ListN.{length, get_or}
-use Rattle.requests.specs.Number.{NumberRead, Number, Refused, Written, Wrote, NotWritten, with_group, read_groups, exceeds, read_number}
+use Rattle.requests.specs.Number.{NumberRead, Number, Refused, with_group, read_groups, exceeds, read_number}
 use Rattle.requests.specs.Forms.{TopBits, EndsInside, NotShortest, TooLarge, IsRead}
 use Rattle.requests.proofs.number.Laws.{group_only, group_last, group_zero, group_more, exceeds_none, exceeds_last, exceeds_more, refusals}
 

@@ -13,16 +13,12 @@ use lib.Dec.{leb}
 use lib.ListN.{length, take, drop, length-append, length-drop}
 use lib.Seq.{take-add, drop-append_seam, drop-append-le}
 use Rattle.formats.specs.Answer.{Answer}
-use Rattle.requests.specs.Number.{groups, read_number}
+use Rattle.requests.specs.Number.{NumberRead, Number, Refused as NoNumber, groups, read_number}
 use Rattle.requests.specs.Forms.{Below}
-use Rattle.requests.specs.Request.{limit, kind_limit, schema, kind_of, values_of, call_answer, request_of, numbers, written, first_limit, limit_of, ArgumentsRead, Values, Fault, with_value, read_arguments, as_request, read_request, request_answer}
-use Rattle.requests.specs.Number.{NumberRead}
-use Rattle.requests.specs.Number.{Number, Refused as NoNumber}
+use Rattle.requests.specs.Request.{ArgumentsRead, Values, Fault, RequestRead, Read, Refused, limit, kind_limit, schema, kind_of, values_of, call_answer, request_of, numbers, written, first_limit, limit_of, with_value, read_arguments, as_request, read_request, request_answer}
 use Rattle.requests.specs.declared.request.Argument.{Argument}
 use Rattle.requests.specs.declared.request.Request.{Request}
 use Rattle.requests.specs.declared.request.Request.TheVariants.{Register, Record, CheckOut, CheckIn, MoveOut, MoveIn, Delete}
-use Rattle.requests.specs.Request.{RequestRead}
-use Rattle.requests.specs.Request.{Read, Refused}
 use Rattle.formats.specs.Bytes.{Bytes}
 use Rattle.formats.proofs.Bytes.{bytes_drop}
 use Rattle.formats.proofs.Cells.{cells, of_cells}

@@ -1,16 +1,15 @@
 -- What the loop of `read_arguments` keeps: the values read so far, and what is left to read.
 -- Assumes nothing.
-use Prim.Native.Nat.{ℕ, suc, ◌+◌, ◌-◌, ◌/◌, ◌≤◌, ◌<◌}
+use Prim.Native.Nat.{ℕ, suc, ◌+◌, ◌-◌, ◌≤◌, ◌<◌}
 use mathlib.Core.Path.{◌≡◌, refl, sym, ap, ap₂, ◌∙◌}
 use mathlib.Core.List.{List, [], ◌∷◌, ◌++◌, append-nil}
 use native.Mathlib.Omega.{arith}
 use native.Mathlib.Numerals.{add-one}
 use lib.ListN.{length, take, drop, get_or, set, replicate, drop_of_length-le, length-set, length-drop, take-append-drop}
 use lib.Seq.{drop-cons, drop-drop, drop-set-lt, take-suc-set, append_snoc, length-take-le, take_all}
-use Rattle.requests.specs.Number.{read_number, number_answer}
-use Rattle.requests.specs.Request.{limit, kind_limit, schema, request_of, ArgumentsRead, Values, Fault, with_value, read_arguments, as_request, read_request}
+use Rattle.requests.specs.Number.{NumberRead, Number, Refused, read_number, number_answer}
+use Rattle.requests.specs.Request.{ArgumentsRead, Values, Fault, Read, Refused as RequestRefused, limit, kind_limit, schema, request_of, with_value, read_arguments, as_request, read_request}
 use Rattle.requests.specs.Values.{filled, arguments_answer}
-use Rattle.requests.specs.Number.{NumberRead, Number, Refused}
 use Rattle.requests.specs.declared.request.Argument.{Argument}
 use Rattle.requests.specs.declared.request.Argument.TheVariants.{Content}
 use Rattle.formats.specs.Answer.{Answer, done, refused}
@@ -20,7 +19,6 @@ use Rattle.requests.proofs.request.Loops.{refusal_positive}
 use Rattle.formats.proofs.Zeros.{zeros_behind}
 use Rattle.requests.proofs.number.Laws.{read_within, same_number, valued}
 use Rattle.requests.specs.declared.request.Request.{Request}
-use Rattle.requests.specs.Request.{Read, Refused as RequestRefused}
 use Rattle.requests.proofs.request.Cases.{argument_refused, argument_limit, argument_value, kind_value}
 use Rattle.requests.proofs.request.Laws.{request_form}
 

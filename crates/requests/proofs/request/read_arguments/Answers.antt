@@ -1,9 +1,8 @@
 -- `requests::request::read_arguments`: at each return the tests that led there say what the next argument comes to.
 -- Assumes nothing.
-use Rattle.std.proofs.Common.{◌≡◌, ◌≤◌, ◌<◌, ◌∙◌, ap, arith, rules, length, drop, length-drop}
+use Rattle.std.proofs.Common.{◌≡◌, ◌∙◌, ap, arith, rules, length, drop, length-drop}
 use Rattle.formats.specs.Answer.{refused}
 use Rattle.formats.specs.Refusal.{number_of, answer_of}
-use Rattle.requests.specs.Request.{schema}
 use Rattle.requests.specs.Values.{arguments_values}
 use Rattle.requests.specs.Number.{Number, Refused}
 use Rattle.requests.proofs.number.Laws.{read_within}
