@@ -241,7 +241,8 @@ pub fn numbers_of(request: Request) -> Numbers
     }
 }
 
-// The facts that stand in values from place `i` on.
+// The facts that stand in values from place `i` on. A pattern that takes part of an array, `[content, facts @ .., hash]`, gets no
+// proof, so the places are counted here.
 fn facts_from(v: [u64; 9], i: usize) -> Facts
     requires { i ≤ 3 }
     ensures { result ≡ facts_from v i }

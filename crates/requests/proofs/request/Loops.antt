@@ -15,7 +15,7 @@ use Rattle.requests.specs.Number.{groups}
 use Rattle.requests.specs.Request.{limit, schema, kind_of, values_of, numbers, written, first_limit, limit_of}
 use Rattle.formats.specs.Refusal.{number_of}
 use Rattle.formats.specs.declared.refusal.Refusal.{Refusal}
-use Rattle.formats.specs.declared.refusal.Refusal.TheVariants.{TooShort, Number, Kind, ContentId, EntryNumber, Facts, Ledger, Titles, Rules, KindOfEntry, StateOfRow, NothingLeft, Hash, CopyOut, PermitsFull, Filler}
+use Rattle.requests.proofs.Refusals.{refusal_positive}
 use Rattle.requests.specs.Values.{filled, Holds}
 use Rattle.requests.specs.declared.request.Argument.{Argument}
 use Rattle.requests.specs.declared.request.Request.{Request}
@@ -111,25 +111,6 @@ count_kind {q} {kind} n h e small =
 pub count_done : {vs : List ℕ} {all n i : ℕ} → Counting vs all n i → length vs ≤ i → n ≡ all
 unfolding numbers
 count_done {vs} {i = i} inv h = omega (arith, inv.total, ap (λ (l : List ℕ). length (numbers l)) (drop_of_length-le vs h))
-
--- no refusal has the number 0
-pub refusal_positive : (w : Refusal) → 0 < number_of w
-refusal_positive TooShort = omega arith
-refusal_positive Number = omega arith
-refusal_positive Kind = omega arith
-refusal_positive ContentId = omega arith
-refusal_positive EntryNumber = omega arith
-refusal_positive Facts = omega arith
-refusal_positive Ledger = omega arith
-refusal_positive Titles = omega arith
-refusal_positive Rules = omega arith
-refusal_positive KindOfEntry = omega arith
-refusal_positive StateOfRow = omega arith
-refusal_positive NothingLeft = omega arith
-refusal_positive Hash = omega arith
-refusal_positive CopyOut = omega arith
-refusal_positive PermitsFull = omega arith
-refusal_positive Filler = omega arith
 
 none_left : (sch : List Argument) (vs : List ℕ) → (sch ≡ []) ⊎ (vs ≡ []) → 0 ≡ first_limit sch vs
 unfolding first_limit

@@ -15,7 +15,7 @@ use Rattle.requests.specs.declared.request.Argument.TheVariants.{Content}
 use Rattle.formats.specs.Answer.{Answer, done, refused}
 use Rattle.formats.specs.Refusal.{number_of}
 use Rattle.formats.specs.declared.refusal.Refusal.{Refusal}
-use Rattle.requests.proofs.request.Loops.{refusal_positive}
+use Rattle.requests.proofs.Refusals.{refusal_positive}
 use Rattle.formats.proofs.Zeros.{zeros_behind}
 use Rattle.requests.proofs.number.Laws.{read_within, same_number, valued}
 use Rattle.requests.specs.declared.request.Request.{Request}

@@ -9,7 +9,7 @@ use Rattle.requests.specs.declared.request.Request.{Request}
 use Rattle.requests.proofs.number.Laws.{same_number}
 use Rattle.requests.proofs.request.Cases.{kind_refused, kind_limit_lem}
 use Rattle.requests.proofs.request.Laws.{same_call}
-use Rattle.requests.proofs.request.Loops.{refusal_positive}
+use Rattle.requests.proofs.Refusals.{refusal_positive}
 use Rattle.requests.proofs.request.Reading.{KindRead, number_within, request_fault, request_read, request_within}
 use Rattle.requests.proofs.request.read.Goals as goal
 

@@ -4,7 +4,7 @@ use Rattle.std.proofs.Common.{◌≡◌, refl, ◌∙◌, arith, rules}
 use Rattle.formats.specs.Answer.{refused}
 use Rattle.formats.specs.Refusal.{number_of, answer_of}
 use Rattle.requests.specs.Number.{count_values}
-use Rattle.requests.proofs.request.Loops.{refusal_positive}
+use Rattle.requests.proofs.Refusals.{refusal_positive}
 use Rattle.requests.proofs.request.Writing.{past_limit, no_room, all_written}
 use Rattle.requests.proofs.request.write.Goals as goal
 
