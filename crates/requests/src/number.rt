@@ -46,18 +46,12 @@ pub fn read(s: &[u8]) -> Result<Number, Refusal>
     Err(Refusal::TooShort)
 }
 
-// How many bytes `x` is written in.
+// How many bytes `x` is written in: as many as there are groups up to its highest bit.
 pub fn len(x: u64) -> usize
     ensures count { result ≡ length (groups x) }
     ensures at_most_ten { result ≤ 10 }
 {
-    let mut n: usize = 1;
-    let mut left = x;
-    while 128 <= left {
-        left = left >> 7;
-        n += 1;
-    }
-    n
+    (x.max(1).ilog2() / 7 + 1) as usize
 }
 
 // Writes `x` from place `at` of `out` on, as many of its bytes as there is room for, and answers the place after them.
