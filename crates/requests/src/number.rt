@@ -60,20 +60,15 @@ pub fn write_at(x: u64, out: &mut [u8], at: usize) -> usize
     ensures bytes { out.new ≡ put out.old at (fitting out.old at (groups x)) }
 {
     let mut left = x;
-    let mut i = at;
-    while 128 <= left {
-        if out.len() <= i {
-            return i;
+    for i in at..out.len() {
+        if left < 128 {
+            out[i] = left as u8;
+            return i + 1;
         }
         out[i] = (128 + left % 128) as u8;
-        left = left >> 7;
-        i += 1;
+        left >>= 7;
     }
-    if out.len() <= i {
-        return i;
-    }
-    out[i] = left as u8;
-    i + 1
+    at.max(out.len())
 }
 
 // Writes `x` at the front of `out`; where it does not fit, changes nothing and refuses. Answers the count of bytes written.
