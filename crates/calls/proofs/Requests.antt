@@ -13,16 +13,11 @@ use borrow.Author.Tests.{eq-eqb, ne_eqb, ltb-false}
 use Rattle.formats.specs.Answer.{done}
 use Rattle.formats.specs.Part.{put}
 use Rattle.formats.proofs.Part.{put_length}
-use Rattle.requests.specs.Number.{read_number, writing, written_to, written_answer}
-use Rattle.requests.specs.Request.{passes, kind_passes, limit, kind_limit, schema, kind_of, values_of, written, first_limit, limit_of, ArgumentsRead, Values, Fault, with_value, read_arguments, as_request, read_request, request_answer, remainder_of, writing_request, request_written_to}
-use Rattle.requests.specs.declared.number.NumberRead.{NumberRead}
-use Rattle.requests.specs.declared.number.NumberRead.TheVariants.{Number, Refused as NoNumber}
+use Rattle.requests.specs.Number.{NumberRead, Number, Refused as NoNumber, Wrote, NotWritten, read_number, writing, written_to, written_answer}
+use Rattle.requests.specs.Request.{ArgumentsRead, Values, Fault, RequestRead, Read, Refused, passes, kind_passes, limit, kind_limit, schema, kind_of, values_of, written, first_limit, limit_of, with_value, read_arguments, as_request, read_request, request_answer, remainder_of, writing_request, request_written_to}
 use Rattle.requests.specs.declared.request.Argument.{Argument}
 use Rattle.requests.specs.declared.request.Argument.TheVariants.{Content, Entry, Cci, Trigger, Rights, Permits, Key, Any}
 use Rattle.requests.specs.declared.request.Request.{Request}
-use Rattle.requests.specs.declared.number.Written.TheVariants.{Wrote, Refused as NotWritten}
-use Rattle.requests.specs.declared.request.RequestRead.{RequestRead}
-use Rattle.requests.specs.declared.request.RequestRead.TheVariants.{Read, Refused}
 use Rattle.requests.proofs.number.Laws.{refusals}
 use Rattle.requests.proofs.request.Laws.{values_size}
 use Rattle.requests.proofs.request.Writing.{writing_request_keeps_bytes}

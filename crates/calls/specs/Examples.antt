@@ -1,7 +1,7 @@
 -- "Ten examples to carry as theorems": each line of the paper's table beside its part.
 use Rattle.std.specs.Prelude.{ℕ, ◌-◌, ◌^◌, ◌≡◌, ◌≢◌, List, [], ◌∷◌, true, false, length, get_or}
-use Rattle.requests.specs.Number.{groups, read_number}
-use Rattle.requests.specs.Request.{kind_of as call_of, written, read_request}
+use Rattle.requests.specs.Number.{Number, Refused as NoNumber, groups, read_number}
+use Rattle.requests.specs.Request.{Read, Refused, kind_of as call_of, written, read_request}
 use Rattle.formats.specs.Half.{key_of, flag_of, id_of, usable_of}
 use Rattle.formats.specs.Title.{cci_of, title_half}
 use Rattle.formats.specs.Entry.{kind_of}
@@ -10,10 +10,8 @@ use Rattle.formats.specs.declared.head.Pair.{Pair}
 use Rattle.formats.specs.declared.facts.ContentId.{ContentId}
 use Rattle.formats.specs.declared.facts.EntryNumber.{EntryNumber}
 use Rattle.formats.specs.declared.facts.Fillers.{Fillers}
-use Rattle.requests.specs.declared.number.NumberRead.TheVariants.{Number, Refused as NoNumber}
 use Rattle.requests.specs.declared.request.Request.{Request}
 use Rattle.requests.specs.declared.request.Request.TheVariants.{CheckOut, CheckIn, MoveOut, MoveIn}
-use Rattle.requests.specs.declared.request.RequestRead.TheVariants.{Read, Refused}
 use Rattle.formats.specs.declared.entry.EntryKind.TheVariants.{Copy, Full, Torn}
 use Rattle.formats.specs.declared.row.RowState.TheVariants.{Here}
 use Rattle.calls.specs.Buffers.{Buffers, state_at, row_facts, kind_at, content_at, facts_at}

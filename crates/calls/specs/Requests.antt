@@ -3,10 +3,8 @@ use Rattle.std.specs.Prelude.{ℕ, ◌≡◌, List, [], ◌∷◌, ◌++◌, Boo
 use Rattle.formats.specs.Answer.{done}
 use Rattle.formats.specs.Bytes.{Bytes}
 use Rattle.formats.specs.Part.{put}
-use Rattle.requests.specs.Number.{read_number, written_answer}
+use Rattle.requests.specs.Number.{NumberRead, Number, Refused, read_number, written_answer}
 use Rattle.requests.specs.Request.{refusal_of, kind_passes, schema, kind_of, values_of, written, limit_of, read_request, request_answer, remainder_of, writing_request, request_written_to}
-use Rattle.requests.specs.declared.number.NumberRead.{NumberRead}
-use Rattle.requests.specs.declared.number.NumberRead.TheVariants.{Number, Refused}
 use Rattle.requests.specs.declared.request.Argument.{Argument}
 use Rattle.requests.specs.declared.request.Argument.TheVariants.{Content, Entry, Cci, Trigger, Rights, Permits, Key, Any}
 use Rattle.requests.specs.declared.request.Request.{Request}

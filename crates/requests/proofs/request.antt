@@ -1,5 +1,5 @@
 pub mod Cases
 pub mod Laws
-pub mod Packing
+pub mod Loops
 pub mod Reading
 pub mod Writing

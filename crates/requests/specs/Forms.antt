@@ -1,11 +1,9 @@
 -- What is promised of the written forms of numbers and requests.
 use Rattle.std.specs.Prelude.{ℕ, ◌^◌, ◌≤◌, ◌<◌, ◌≡◌, ◌⊎◌, List, ◌++◌, true, length, take, get_or}
 use Rattle.formats.specs.Bytes.{Bytes}
-use Rattle.requests.specs.Number.{groups, read_groups, read_number}
-use Rattle.requests.specs.Request.{values_of, written, limit_of, read_request}
-use Rattle.requests.specs.declared.number.NumberRead.TheVariants.{Number, Refused as NoNumber}
+use Rattle.requests.specs.Number.{Number, Refused as NoNumber, groups, read_groups, read_number}
+use Rattle.requests.specs.Request.{Read, Refused, values_of, written, limit_of, read_request}
 use Rattle.requests.specs.declared.request.Request.{Request}
-use Rattle.requests.specs.declared.request.RequestRead.TheVariants.{Read, Refused}
 
 -- "The group-of-seven law is to be shown for any count of groups, not per length."
 pub record GroupsOfSeven : Type 0 where

@@ -1,4 +1,4 @@
 pub mod Number
 pub mod Request
-pub mod Packed
+pub mod Values
 pub mod Forms

@@ -2,10 +2,7 @@
 use Rattle.std.specs.Prelude.{ℕ, zero, suc, ◌+◌, ◌-◌, ◌*◌, ◌/◌, ◌%◌, List, [], ◌∷◌, Bool, true, false, cond, not, ◌&&◌, length, leb, ltb, eqb}
 use Rattle.formats.specs.Answer.{Answer, done, refused}
 use Rattle.formats.specs.Part.{put}
-use Rattle.requests.specs.declared.number.NumberRead.{NumberRead}
-use Rattle.requests.specs.declared.number.NumberRead.TheVariants.{Number, Refused}
-use Rattle.requests.specs.declared.number.Written.{Written}
-use Rattle.requests.specs.declared.number.Written.TheVariants.{Wrote, Refused as NotWritten}
+use Rattle.requests.specs.declared.number.Number.{Number as ReadNumber}
 
 -- the groups of n, at most suc k of them; `last` says that n is below 128, so that it is a single group
 unfoldable pub groups_in : ℕ → Bool → ℕ → List ℕ
@@ -16,6 +13,16 @@ groups_in (suc k) false n = (128 + n % 128) ∷ groups_in k (ltb (n / 128) 128) 
 -- the written form of n, whatever its size: n has at most n + 1 groups
 unfoldable pub groups : ℕ → List ℕ
 groups n = groups_in n (ltb n 128) n
+
+-- what reading finds: a number and the count of its bytes, or a refusal, 1 or 2
+pub data NumberRead : Type 0 where
+  Number : ℕ → ℕ → NumberRead
+  Refused : ℕ → NumberRead
+
+-- what writing answers: the count of bytes written, or a refusal
+pub data Written : Type 0 where
+  Wrote : ℕ → Written
+  NotWritten : ℕ → Written
 
 -- what was read, with one more group in front of it
 abbrev pub with_group : ℕ → NumberRead → NumberRead
@@ -42,6 +49,14 @@ exceeds (suc k) (b ∷ s) = leb 128 b && exceeds k s
 -- what reading finds at the front of s, a number and the count of its bytes, or a refusal
 unfoldable pub read_number : List ℕ → NumberRead
 read_number s = cond (exceeds 9 s) (Refused 2) (read_groups true s)
+
+-- the values of a number that the code read: itself and the count of its bytes
+abbrev pub number_values : ReadNumber → List ℕ
+number_values n = n.value ∷ n.len ∷ []
+
+-- the value of what the code wrote: the count of its bytes
+abbrev pub count_values : ℕ → List ℕ
+count_values n = n ∷ []
 
 -- the paper's number and values of each case of a reading: the number and the count of its bytes
 abbrev pub number_answer : NumberRead → Answer

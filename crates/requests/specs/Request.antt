@@ -1,21 +1,17 @@
 -- "A request is its kind and its arguments in the order above."
-use Rattle.std.specs.Prelude.{ℕ, ◌+◌, List, [], ◌∷◌, ◌++◌, Bool, true, ◌&&◌, cond, get_or, drop, leb, eqb}
+use Rattle.std.specs.Prelude.{ℕ, ◌+◌, List, [], ◌∷◌, ◌++◌, Bool, true, ◌&&◌, cond, get_or, drop, leb, eqb, Result, Ok, Err}
 use Rattle.formats.specs.Answer.{Answer, case, done, refused}
 use Rattle.formats.specs.Facts.{fact_values, numbered, cci_passes, trigger_passes, count_passes, key_passes}
-use Rattle.requests.specs.Number.{groups, read_number, writing, written_to}
-use Rattle.formats.specs.Refusal.{unless}
-use Rattle.requests.specs.declared.number.NumberRead.{NumberRead}
-use Rattle.requests.specs.declared.number.NumberRead.TheVariants.{Number, Refused as NoNumber}
-use Rattle.requests.specs.declared.number.Written.{Written}
-use Rattle.requests.specs.declared.number.Written.TheVariants.{Refused as NotWritten}
+use Rattle.requests.specs.Number.{NumberRead, Number, Refused as NoNumber, Written, NotWritten, groups, read_number, writing, written_to}
+use Rattle.formats.specs.Refusal.{unless, number_of}
+use Rattle.formats.specs.declared.refusal.Refusal.{Refusal}
 use Rattle.formats.specs.declared.facts.Facts.{Facts}
 use Rattle.formats.specs.declared.facts.Fillers.{Fillers}
 use Rattle.requests.specs.declared.request.Argument.{Argument}
 use Rattle.requests.specs.declared.request.Argument.TheVariants.{Content, Entry, Cci, Trigger, Rights, Permits, Key, Any}
 use Rattle.requests.specs.declared.request.Request.{Request}
 use Rattle.requests.specs.declared.request.Request.TheVariants.{Register, Record, CheckOut, CheckIn, MoveOut, MoveIn, Delete}
-use Rattle.requests.specs.declared.request.RequestRead.{RequestRead}
-use Rattle.requests.specs.declared.request.RequestRead.TheVariants.{Read, Refused}
+use Rattle.requests.specs.declared.request.RequestRead.{RequestRead as ReadRequest}
 
 -- what a value must be in order to pass as an argument: c and j "1 to 999", the facts in their ranges; "f1 to f4 are 64-bit fillers,
 -- h a 64-bit C_HASH", which have no limit of their own
@@ -160,6 +156,11 @@ read_arguments [] s = Values [] 0
 read_arguments (a ∷ rest) s =
     on_number (read_number s) (λ v k. cond (eqb (limit a v) 0) (with_value v k (read_arguments rest (drop k s))) (Fault (limit a v)))
 
+-- what reading a request finds: the request and the count of its bytes, or a refusal, 1 to 6
+pub data RequestRead : Type 0 where
+  Read : Request → ℕ → RequestRead
+  Refused : ℕ → RequestRead
+
 abbrev pub as_request : ℕ → ℕ → ArgumentsRead → RequestRead
 as_request kind k (Values vs n) = Read (request_of kind vs) (k + n)
 as_request kind k (Fault w) = Refused w
@@ -173,6 +174,15 @@ unfoldable pub read_request : List ℕ → RequestRead
 read_request s =
     on_kind (read_number s)
     (λ kind k. cond (eqb (kind_limit kind) 0) (as_request kind k (read_arguments (schema kind) (drop k s))) (Refused (kind_limit kind)))
+
+-- the values of a request that the code read: the count of its bytes, its kind and its arguments
+abbrev pub request_values : ReadRequest → List ℕ
+request_values r = r.len ∷ kind_of r.request ∷ values_of r.request
+
+-- what the code's answer says was found
+abbrev pub reading_of : Result ReadRequest Refusal → RequestRead
+reading_of (Ok r) = Read r.request r.len
+reading_of (Err w) = Refused (number_of w)
 
 -- the paper's number and values of each case of reading a request: the count of its bytes, its kind and its arguments
 abbrev pub request_answer : RequestRead → Answer

@@ -1,17 +1,17 @@
 // Requests: a kind and its arguments, each a number in groups of seven bits.
-ghost use Rattle.std.specs.Prelude.{◌≡◌, ◌&&◌, ◌+◌, ◌≤◌, ◌<◌, length, leb};
+ghost use Rattle.std.specs.Prelude.{◌≡◌, ◌≤◌, length, take};
 ghost use Rattle.formats.specs.Part.{put};
-ghost use Rattle.requests.specs.Number.{number_answer, written_answer};
-ghost use Rattle.formats.specs.Refusal.{unless};
+ghost use Rattle.formats.specs.Refusal.{answer_number, answer_of};
+ghost use Rattle.requests.specs.Number.{count_values, written_answer};
 ghost use Rattle.requests.specs.Request.{limit, kind_limit, kind_of, call_answer, schema, facts_from, fillers_from, request_of};
-ghost use Rattle.requests.specs.Request.{written, limit_of, Fault, read_arguments, read_request, request_answer};
+ghost use Rattle.requests.specs.Request.{written, limit_of, read_arguments, read_request, request_values, request_answer, reading_of};
 ghost use Rattle.requests.specs.Request.{remainder_of, writing_request, request_written_to};
-ghost use Rattle.requests.specs.Packed.{code_of, argument_of, packed, Holds, arguments_answer};
+ghost use Rattle.requests.specs.Values.{Holds, arguments_values, arguments_answer};
 
 use crate::number;
-use crate::number::{NumberRead, Written};
+use formats::facts;
 use formats::facts::{ContentId, EntryNumber, Facts, Fillers};
-use formats::{facts, refusal};
+use formats::refusal::Refusal;
 
 // The seven calls, with their arguments.
 #[derive(Clone, Copy)]
@@ -50,15 +50,15 @@ pub enum Request {
     },
 }
 
-// What reading a request finds: the request and the count of its bytes, or a refusal, 1 to 6.
+// A request that was read, and the count of its bytes.
 #[derive(Clone, Copy)]
-pub enum RequestRead {
-    Read { request: Request, len: usize },
-    Refused(u64),
+pub struct RequestRead {
+    pub request: Request,
+    pub len: usize,
 }
 
 // What an argument is, which decides its limit.
-#[derive(Clone, Copy)]
+#[derive(Clone, Copy, Debug, PartialEq, Eq)]
 pub enum Argument {
     Content,
     Entry,
@@ -70,97 +70,109 @@ pub enum Argument {
     Any,
 }
 
-// The values of a request's arguments in their order, and zeros after them.
-#[derive(Clone, Copy)]
+impl Argument {
+    // Refuses a value past this argument's limit.
+    fn limit(self, value: u64) -> Result<(), Refusal>
+        ensures { answer_number result ≡ limit self value }
+    {
+        let (passes, refusal) = match self {
+            Argument::Content => (facts::is_numbered(value), Refusal::ContentId),
+            Argument::Entry => (facts::is_numbered(value), Refusal::EntryNumber),
+            Argument::Cci => (facts::is_cci(value), Refusal::Facts),
+            Argument::Trigger => (facts::is_trigger(value), Refusal::Facts),
+            Argument::Rights | Argument::Permits => (facts::is_count(value), Refusal::Facts),
+            Argument::Key => (facts::is_key(value), Refusal::Facts),
+            Argument::Any => return Ok(()),
+        };
+        if passes { Ok(()) } else { Err(refusal) }
+    }
+}
+
+// A request's kind, and the values of its arguments in their order with zeros after them. The kind is its number, as in bytes
+// and in C: an enum of the seven would say again what `Request` says.
+#[derive(Clone, Copy, Debug, PartialEq, Eq)]
 pub struct Numbers {
     pub kind: u64,
     pub values: [u64; 9],
 }
 
-// What reading arguments finds: their values and the count of their bytes, or a refusal with zeros beside it.
-#[derive(Clone, Copy)]
-pub struct Arguments {
-    pub refusal: u64,
-    pub values: [u64; 9],
-    pub len: usize,
+impl Numbers {
+    // The values of the arguments, without the zeros.
+    fn used(&self) -> &[u64]
+        ensures { result.now ≡ take (length (schema self.now.kind)) self.now.values }
+    {
+        &self.values[..schema(self.kind).len()]
+    }
 }
 
-// The arguments of a kind, four bits each and the first lowest; 0 ends them.
-#[tactic(auto, unfolding(crate::specs::Request::schema, crate::specs::Packed::packed, crate::specs::Packed::code_of))]
-fn packed_schema(kind: u64) -> u64
-    ensures { result ≡ packed (schema kind) }
+// The values of arguments that were read, with zeros after them, and the count of their bytes.
+#[derive(Clone, Copy)]
+struct Arguments {
+    values: [u64; 9],
+    len: usize,
+}
+
+// The arguments of a kind.
+#[tactic(auto, unfolding(crate::specs::Request::schema))]
+fn schema(kind: u64) -> &'static [Argument]
+    ensures { result.now ≡ schema kind }
 {
     match kind {
-        1 => 0x776_5431,
-        2 => 0x8_7765_4321,
-        3 => 0x21,
-        4 => 0x82,
-        5 => 0x88_8882,
-        6 => 0x821,
-        7 => 0x8_8882,
-        _ => 0,
+        1 => &[
+            Argument::Content,
+            Argument::Cci,
+            Argument::Trigger,
+            Argument::Rights,
+            Argument::Permits,
+            Argument::Key,
+            Argument::Key,
+        ],
+        2 => &[
+            Argument::Content,
+            Argument::Entry,
+            Argument::Cci,
+            Argument::Trigger,
+            Argument::Rights,
+            Argument::Permits,
+            Argument::Key,
+            Argument::Key,
+            Argument::Any,
+        ],
+        3 => &[Argument::Content, Argument::Entry],
+        4 => &[Argument::Entry, Argument::Any],
+        5 => &[
+            Argument::Entry,
+            Argument::Any,
+            Argument::Any,
+            Argument::Any,
+            Argument::Any,
+            Argument::Any,
+        ],
+        6 => &[Argument::Content, Argument::Entry, Argument::Any],
+        7 => &[
+            Argument::Entry,
+            Argument::Any,
+            Argument::Any,
+            Argument::Any,
+            Argument::Any,
+        ],
+        _ => &[],
     }
 }
 
-#[tactic(auto, unfolding(crate::specs::Packed::argument_of))]
-fn argument_of(code: u64) -> Argument
-    ensures { code_of result ≡ code_of (argument_of code) }
+// Refuses a kind that is not 1 to 7.
+pub fn kind_limit(kind: u64) -> Result<(), Refusal>
+    ensures { answer_number result ≡ kind_limit kind }
 {
-    match code {
-        1 => Argument::Content,
-        2 => Argument::Entry,
-        3 => Argument::Cci,
-        4 => Argument::Trigger,
-        5 => Argument::Rights,
-        6 => Argument::Permits,
-        7 => Argument::Key,
-        _ => Argument::Any,
+    if (1..=7).contains(&kind) {
+        Ok(())
+    } else {
+        Err(Refusal::Kind)
     }
-}
-
-// 0 where a value passes, else the refusal.
-fn limited(passes: bool, refusal: u64) -> u64
-    ensures { result ≡ unless passes refusal }
-{
-    if passes { 0 } else { refusal }
-}
-
-// 0 where a value is from `least` to `most`, else the refusal. Most arguments are limited in this one form, of which the compiler
-// makes one test with its numbers from a table.
-fn range_limit(value: u64, least: u64, most: u64, refusal: u64) -> u64
-    ensures { result ≡ unless (leb least value && leb value most) refusal }
-{
-    if value < least {
-        return refusal;
-    }
-    limited(value <= most, refusal)
-}
-
-// 0 where a value is within its argument's limit, else the refusal.
-fn argument_limit(argument: Argument, value: u64) -> u64
-    ensures { result ≡ limit argument value }
-{
-    match argument {
-        Argument::Content => range_limit(value, 1, facts::LAST_NUMBER, refusal::CONTENT_ID),
-        Argument::Entry => range_limit(value, 1, facts::LAST_NUMBER, refusal::ENTRY_NUMBER),
-        Argument::Cci => limited(facts::is_cci(value), refusal::FACTS),
-        Argument::Trigger => range_limit(value, 0, facts::MOST_TRIGGER, refusal::FACTS),
-        Argument::Rights => range_limit(value, 0, facts::MOST_COUNT, refusal::FACTS),
-        Argument::Permits => range_limit(value, 0, facts::MOST_COUNT, refusal::FACTS),
-        Argument::Key => range_limit(value, 0, facts::MOST_KEY, refusal::FACTS),
-        Argument::Any => 0,
-    }
-}
-
-// 0 where a kind is 1 to 7, else 3.
-pub fn kind_limit(kind: u64) -> u64
-    ensures { result ≡ kind_limit kind }
-{
-    range_limit(kind, 1, 7, refusal::KIND)
 }
 
 // A request as numbers.
-#[tactic(auto, unfolding(crate::specs::Packed::filled))]
+#[tactic(auto, unfolding(crate::specs::Values::filled))]
 pub fn numbers_of(request: Request) -> Numbers
     ensures { Holds request result.kind result.values }
 {
@@ -229,7 +241,8 @@ pub fn numbers_of(request: Request) -> Numbers
     }
 }
 
-// The facts that stand in values from place `i` on.
+// The facts that stand in values from place `i` on. A pattern that takes part of an array, `[content, facts @ .., hash]`, gets no
+// proof, so the places are counted here.
 fn facts_from(v: [u64; 9], i: usize) -> Facts
     requires { i ≤ 3 }
     ensures { result ≡ facts_from v i }
@@ -298,54 +311,19 @@ pub fn request_of(kind: u64, v: [u64; 9]) -> Request
     }
 }
 
-// Refused: zeros beside the number.
-fn refused(refusal: u64) -> Arguments
-    ensures { result ≡ arguments_answer (Fault refusal) }
-{
-    Arguments {
-        refusal,
-        values: [0; 9],
-        len: 0,
-    }
-}
-
-// The refusal that reading a number found, or 0.
-fn number_refusal(found: NumberRead) -> u64
-    ensures { result ≡ (number_answer found).number }
-{
-    match found {
-        NumberRead::Number { value: _, len: _ } => 0,
-        NumberRead::Refused(w) => w,
-    }
-}
-
 // Reads the arguments of a kind at the front of `s`. Each number is tested for its own limit before the next is read.
-fn read_arguments(s: &[u8], kind: u64) -> Arguments
-    ensures { result ≡ arguments_answer (read_arguments (schema kind) s.now) }
+fn read_arguments(s: &[u8], kind: u64) -> Result<Arguments, Refusal>
+    ensures { answer_of arguments_values result ≡ arguments_answer (read_arguments (schema kind) s.now) }
 {
-    let mut left = packed_schema(kind);
-    let mut values = [0u64; 9];
-    let mut count: usize = 0;
-    let mut used: usize = 0;
-    while left != 0 {
-        let found = number::read(&s[used..]);
-        let NumberRead::Number { value, len } = found else {
-            return refused(number_refusal(found));
-        };
-        let w = argument_limit(argument_of(left & 15), value);
-        if w != 0 {
-            return refused(w);
-        }
-        values[count] = value;
-        count += 1;
-        used += len;
-        left = left >> 4;
+    let mut values = [0; 9];
+    let mut used = 0;
+    for (i, argument) in schema(kind).iter().enumerate() {
+        let found = number::read(&s[used..])?;
+        argument.limit(found.value)?;
+        values[i] = found.value;
+        used += found.len;
     }
-    Arguments {
-        refusal: 0,
-        values,
-        len: used,
-    }
+    Ok(Arguments { values, len: used })
 }
 
 // The number of a request's kind.
@@ -353,105 +331,48 @@ pub fn kind(request: Request) -> u64
     ensures { result ≡ kind_of request }
 {
     match request {
-        Request::Register {
-            content: _,
-            facts: _,
-        } => 1,
-        Request::Record {
-            content: _,
-            entry: _,
-            facts: _,
-            hash: _,
-        } => 2,
-        Request::CheckOut {
-            content: _,
-            entry: _,
-        } => 3,
-        Request::CheckIn { entry: _, f1: _ } => 4,
-        Request::MoveOut {
-            entry: _,
-            hash: _,
-            fillers: _,
-        } => 5,
-        Request::MoveIn {
-            content: _,
-            entry: _,
-            hash: _,
-        } => 6,
-        Request::Delete {
-            entry: _,
-            fillers: _,
-        } => 7,
+        Request::Register { .. } => 1,
+        Request::Record { .. } => 2,
+        Request::CheckOut { .. } => 3,
+        Request::CheckIn { .. } => 4,
+        Request::MoveOut { .. } => 5,
+        Request::MoveIn { .. } => 6,
+        Request::Delete { .. } => 7,
     }
 }
 
 // The request at the front of `s`.
-pub fn read(s: &[u8]) -> RequestRead
-    ensures { request_answer result ≡ request_answer (read_request s.now) }
+pub fn read(s: &[u8]) -> Result<RequestRead, Refusal>
+    ensures { answer_of request_values result ≡ request_answer (read_request s.now) }
 {
-    let found = number::read(s);
-    let NumberRead::Number { value: kind, len } = found else {
-        return RequestRead::Refused(number_refusal(found));
-    };
-    let w = kind_limit(kind);
-    if w != 0 {
-        return RequestRead::Refused(w);
-    }
-    let arguments = read_arguments(&s[len..], kind);
-    if arguments.refusal != 0 {
-        return RequestRead::Refused(arguments.refusal);
-    }
-    let values = arguments.values;
-    RequestRead::Read {
-        request: request_of(kind, values),
-        len: len + arguments.len,
-    }
-}
-
-// The number of what reading found: 0 of a request that was read.
-pub fn number(found: RequestRead) -> u64
-    ensures { result ≡ (request_answer found).number }
-{
-    match found {
-        RequestRead::Read { request: _, len: _ } => 0,
-        RequestRead::Refused(w) => w,
-    }
+    let kind = number::read(s)?;
+    kind_limit(kind.value)?;
+    let arguments = read_arguments(&s[kind.len..], kind.value)?;
+    Ok(RequestRead {
+        request: request_of(kind.value, arguments.values),
+        len: kind.len + arguments.len,
+    })
 }
 
 // The unread remainder of `s` after what was read at its front, as part of the caller's own bytes: all of `s` on a refusal.
-pub fn remainder(s: &[u8], found: RequestRead) -> &[u8]
-    ensures { result.now ≡ remainder_of s.now found }
+pub fn remainder(s: &[u8], found: Result<RequestRead, Refusal>) -> &[u8]
+    ensures { result.now ≡ remainder_of s.now (reading_of found) }
 {
     match found {
-        RequestRead::Read { request: _, len } => {
-            if len <= s.len() {
-                &s[len..]
-            } else {
-                &s[s.len()..]
-            }
-        }
-        RequestRead::Refused(_) => s,
+        Ok(read) => s.get(read.len..).unwrap_or(&s[s.len()..]),
+        Err(_) => s,
     }
 }
 
-// 0 where every argument of a request is within its limit, else the first refusal, 4 to 6. Its kind is one of the seven.
-pub fn limit(request: Request) -> u64
-    ensures { result ≡ limit_of request }
+// Refuses a request with an argument past its limit: the first one, 4 to 6. Its kind is one of the seven.
+pub fn limit(request: Request) -> Result<(), Refusal>
+    ensures { answer_number result ≡ limit_of request }
 {
     let numbers = numbers_of(request);
-    let kind = numbers.kind;
-    let values = numbers.values;
-    let mut left = packed_schema(kind);
-    let mut i: usize = 0;
-    while left != 0 {
-        let w = argument_limit(argument_of(left & 15), values[i]);
-        if w != 0 {
-            return w;
-        }
-        i += 1;
-        left = left >> 4;
+    for (argument, value) in schema(numbers.kind).iter().zip(&numbers.values) {
+        argument.limit(*value)?;
     }
-    0
+    Ok(())
 }
 
 // How many bytes a request is written in.
@@ -459,15 +380,9 @@ pub fn len(request: Request) -> usize
     ensures { result ≡ length (written request) }
 {
     let numbers = numbers_of(request);
-    let kind = numbers.kind;
-    let values = numbers.values;
-    let mut left = packed_schema(kind);
-    let mut n = number::len(kind);
-    let mut i: usize = 0;
-    while left != 0 {
-        n += number::len(values[i]);
-        i += 1;
-        left = left >> 4;
+    let mut n = number::len(numbers.kind);
+    for value in numbers.used() {
+        n += number::len(*value);
     }
     n
 }
@@ -478,31 +393,23 @@ fn store(request: Request, out: &mut [u8])
     ensures { out.new ≡ put out.old 0 (written request) }
 {
     let numbers = numbers_of(request);
-    let kind = numbers.kind;
-    let values = numbers.values;
-    let mut left = packed_schema(kind);
-    let mut at = number::write_at(kind, &mut *out, 0);
-    let mut i: usize = 0;
-    while left != 0 {
-        at = number::write_at(values[i], &mut *out, at);
-        i += 1;
-        left = left >> 4;
+    let mut at = number::write_at(numbers.kind, out, 0);
+    for value in numbers.used() {
+        at = number::write_at(*value, out, at);
     }
 }
 
 // Writes a request at the front of `out`; where an argument is past its limit or it does not fit, changes nothing and refuses.
-pub fn write(request: Request, out: &mut [u8]) -> Written
-    ensures answer { written_answer result ≡ written_answer (writing_request request out.old) }
+// Answers the count of bytes written.
+pub fn write(request: Request, out: &mut [u8]) -> Result<usize, Refusal>
+    ensures answer { answer_of count_values result ≡ written_answer (writing_request request out.old) }
     ensures bytes { out.new ≡ request_written_to request out.old }
 {
-    let w = limit(request);
-    if w != 0 {
-        return Written::Refused(w);
-    }
+    limit(request)?;
     let n = len(request);
     if out.len() < n {
-        return Written::Refused(refusal::TOO_SHORT);
+        return Err(Refusal::TooShort);
     }
     store(request, out);
-    Written::Wrote(n)
+    Ok(n)
 }

@@ -1,13 +1,15 @@
 -- The laws of numbers in groups of seven bits: of any count of groups, then of the ten bytes that a number may have. Reading undoes writing,
 -- only the written form is read, and nothing after a number counts.
 -- Assumes nothing.
-use Prim.Native.Nat.{ℕ, zero, suc, ◌+◌, ◌-◌, ◌*◌, ◌/◌, ◌%◌, ◌^◌, ◌≤◌, ◌<◌}
+use Prim.Native.Nat.{ℕ, zero, suc, max, ◌+◌, ◌-◌, ◌*◌, ◌/◌, ◌%◌, ◌^◌, ◌≤◌, ◌<◌}
 use mathlib.Core.Path.{◌≡◌, refl, sym, ap, ap₂, ◌∙◌}
 use mathlib.Core.Logic.{◌⊎◌, inl, inr, ⊎_elim}
 use mathlib.Core.List.{List, [], ◌∷◌, ◌++◌}
 use mathlib.Core.Bool.{Bool, true, false, cond, not, true≢false}
 use native.Mathlib.Omega.{arith}
 use native.Mathlib.Nat.{pow-succ', one-le-pow}
+use Rattle.std.proofs.lemmas.Nat.{pow-add}
+use Rattle.std.proofs.Math.Pow.{pow_mono}
 use native.Mathlib.Numerals.{add-one}
 use native.Mathlib.Decide.{dec_lt, ℕ_discrete}
 use borrow.Author.Tests.{ltb-false, leb-true, eqb-true, not-false, lt-ltb, le-ltb, lt-leb, le-leb, ne_eqb}
@@ -18,11 +20,7 @@ use Rattle.formats.specs.Part.{put}
 use Rattle.formats.specs.Bytes.{Bytes}
 use Rattle.formats.proofs.Bytes.{Listed, none, more, bytes, listed, bytes_put}
 use Rattle.formats.proofs.Tests.{and_false, same_test}
-use Rattle.requests.specs.Number.{groups_in, groups, with_group, read_groups, exceeds, read_number, number_answer, written_answer, writing, written_to}
-use Rattle.requests.specs.declared.number.NumberRead.{NumberRead}
-use Rattle.requests.specs.declared.number.NumberRead.TheVariants.{Number, Refused}
-use Rattle.requests.specs.declared.number.Written.{Written}
-use Rattle.requests.specs.declared.number.Written.TheVariants.{Wrote, Refused as NotWritten}
+use Rattle.requests.specs.Number.{NumberRead, Number, Refused, Written, Wrote, NotWritten, groups_in, groups, with_group, read_groups, exceeds, read_number, number_answer, written_answer, writing, written_to}
 
 -- the count of groups allowed does not matter, once it is enough
 enough : (k m : ℕ) (b : Bool) (n : ℕ) → ltb n 128 ≡ b → n ≤ k → n ≤ m → groups_in k b n ≡ groups_in m b n
@@ -403,12 +401,26 @@ pub writing_keeps_bytes : (w out : List ℕ) → Bytes w → Bytes out → Bytes
 unfolding written_to
 writing_keeps_bytes w out p q = bytes_cond (ltb (length out) (length w)) out (put out 0 w) q (bytes_put out 0 q (listed w p))
 
--- a number below 128 ^ k has at most k groups
-pub groups_length : (k n : ℕ) → n < 128 ^ suc k → length (groups n) ≤ suc k
-groups_length zero n h = omega (arith, ap length (groups_last n (omega arith)))
-groups_length (suc k) n h =
-    elim (dec_lt n 128) [
-      | yes s ↦ omega (arith, ap length (groups_last n s))
-      | no s ↦
-          omega (arith, ap length (groups_more n (omega arith)), groups_length k (n / 128) (omega (arith, pow-succ' 128 (suc k))))
+-- a number whose highest bit is at place 7 * k + r has k + 1 groups
+pub groups_to_bit : (k r n : ℕ) → r < 7 → 2 ^ (7 * k + r) ≤ n → n < 2 * 2 ^ (7 * k + r) → length (groups n) ≡ k + 1
+groups_to_bit zero r n h low high =
+    let small : 2 ^ r ≤ 2 ^ 6 = pow_mono (let few : r ≤ 6 = omega arith in few) in
+    let place : 2 ^ (7 * 0 + r) ≡ 2 ^ r = ap (λ (m : ℕ). 2 ^ m) (let e : 7 * 0 + r ≡ r = omega arith in e) in
+    ap length (groups_last n (omega arith))
+groups_to_bit (suc k) r n h low high =
+    let one : 2 ^ (7 + (7 * k + r)) ≡ 2 ^ 7 * 2 ^ (7 * k + r) = pow-add 2 7 (7 * k + r) in
+    let e : 7 * suc k + r ≡ 7 + (7 * k + r) = omega arith in
+    let two : 2 ^ (7 * suc k + r) ≡ 128 * 2 ^ (7 * k + r) = ap (λ (m : ℕ). 2 ^ m) e ∙ one in
+    let big : 0 < 2 ^ (7 * k + r) = one-le-pow (7 * k + r) 2 (omega arith) in
+    let more = groups_to_bit k r (n / 128) h (omega arith) (omega arith) in
+    omega (arith, ap length (groups_more n (omega arith)), more)
+
+-- and 0, which has no bit, as many as 1
+pub groups_to_highest : (n m r : ℕ) → m ≡ max n 1 → 2 ^ r ≤ m → m < 2 * 2 ^ r → r / 7 + 1 ≡ length (groups n)
+groups_to_highest n m r e low high =
+    let place : 7 * (r / 7) + r % 7 ≡ r = omega arith in
+    let size : length (groups m) ≡ r / 7 + 1 = groups_to_bit (r / 7) (r % 7) m (omega arith) (rw place low) (rw place high) in
+    elim (ℕ_discrete n 0) [
+      | yes z ↦ omega (arith, size, ap length (groups_last m (omega arith)), ap length (groups_last n (omega arith)))
+      | no p ↦ let same_number : m ≡ n = omega arith in sym size ∙ ap (λ (l : ℕ). length (groups l)) same_number
     ]

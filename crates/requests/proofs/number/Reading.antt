@@ -11,9 +11,7 @@ use native.Mathlib.Numerals.{add-one}
 use lib.Dec.{eqb}
 use lib.ListN.{length, drop, get_or, drop_of_length-le}
 use lib.Seq.{drop-cons}
-use Rattle.requests.specs.Number.{with_group, read_groups, exceeds, read_number}
-use Rattle.requests.specs.declared.number.NumberRead.{NumberRead}
-use Rattle.requests.specs.declared.number.NumberRead.TheVariants.{Number, Refused}
+use Rattle.requests.specs.Number.{NumberRead, Number, Refused, with_group, read_groups, exceeds, read_number}
 use Rattle.requests.proofs.number.Laws.{same, group_only, group_last, group_zero, group_more, exceeds_none, exceeds_last, exceeds_more}
 
 -- what reading found after i bytes whose value is a, where the next group's place is p

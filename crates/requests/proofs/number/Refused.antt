@@ -9,10 +9,8 @@ use native.Mathlib.Omega.{arith}
 use native.Mathlib.Decide.{dec_lt, ℕ_discrete}
 use borrow.Author.Tests.{ne_eqb}
 use lib.ListN.{length, get_or}
-use Rattle.requests.specs.Number.{with_group, read_groups, exceeds, read_number}
+use Rattle.requests.specs.Number.{NumberRead, Number, Refused, with_group, read_groups, exceeds, read_number}
 use Rattle.requests.specs.Forms.{TopBits, EndsInside, NotShortest, TooLarge, IsRead}
-use Rattle.requests.specs.declared.number.NumberRead.{NumberRead}
-use Rattle.requests.specs.declared.number.NumberRead.TheVariants.{Number, Refused}
 use Rattle.requests.proofs.number.Laws.{group_only, group_last, group_zero, group_more, exceeds_none, exceeds_last, exceeds_more, refusals}
 
 -- what reading finds in s where m bytes of it, with the top bit set, may stand before the tenth byte of the number

@@ -5,11 +5,9 @@ use mathlib.Core.Path.{◌≡◌}
 use mathlib.Core.List.{List, ◌∷◌}
 use borrow.Author.Tests.{eq-eqb, ne_eqb}
 use lib.ListN.{drop}
-use Rattle.requests.specs.Number.{read_number}
-use Rattle.requests.specs.Request.{limit, kind_limit, schema, Fault, with_value, read_arguments, as_request, read_request}
-use Rattle.requests.specs.declared.number.NumberRead.TheVariants.{Number, Refused as NoNumber}
+use Rattle.requests.specs.Number.{Number, Refused as NoNumber, read_number}
+use Rattle.requests.specs.Request.{Fault, Refused, limit, kind_limit, schema, with_value, read_arguments, as_request, read_request}
 use Rattle.requests.specs.declared.request.Argument.{Argument}
-use Rattle.requests.specs.declared.request.RequestRead.TheVariants.{Refused}
 
 -- the next argument
 module _ (a : Argument) (rest : List Argument) (s : List ℕ) where

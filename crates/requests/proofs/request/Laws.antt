@@ -13,17 +13,17 @@ use lib.Dec.{leb}
 use lib.ListN.{length, take, drop, length-append, length-drop}
 use lib.Seq.{take-add, drop-append_seam, drop-append-le}
 use Rattle.formats.specs.Answer.{Answer}
-use Rattle.requests.specs.Number.{groups, read_number}
+use Rattle.requests.specs.Number.{NumberRead, Number, Refused as NoNumber, groups, read_number}
 use Rattle.requests.specs.Forms.{Below}
-use Rattle.requests.specs.Request.{limit, kind_limit, schema, kind_of, values_of, call_answer, request_of, numbers, written, first_limit, limit_of, ArgumentsRead, Values, Fault, with_value, read_arguments, as_request, read_request, request_answer}
-use Rattle.requests.specs.declared.number.NumberRead.{NumberRead}
-use Rattle.requests.specs.declared.number.NumberRead.TheVariants.{Number, Refused as NoNumber}
+use Rattle.requests.specs.Request.{ArgumentsRead, Values, Fault, RequestRead, Read, Refused, limit, kind_limit, schema, kind_of, values_of, call_answer, request_of, numbers, written, first_limit, limit_of, with_value, read_arguments, as_request, read_request, request_values, request_answer, reading_of}
 use Rattle.requests.specs.declared.request.Argument.{Argument}
 use Rattle.requests.specs.declared.request.Request.{Request}
 use Rattle.requests.specs.declared.request.Request.TheVariants.{Register, Record, CheckOut, CheckIn, MoveOut, MoveIn, Delete}
-use Rattle.requests.specs.declared.request.RequestRead.{RequestRead}
-use Rattle.requests.specs.declared.request.RequestRead.TheVariants.{Read, Refused}
 use Rattle.formats.specs.Bytes.{Bytes}
+use Rattle.formats.specs.Refusal.{answer_of}
+use Rattle.formats.specs.declared.refusal.Refusal.{Refusal}
+use Rattle.requests.specs.declared.request.RequestRead.{RequestRead as ReadRequest}
+use Rattle.std.specs.Prelude.{Result, Ok, Err}
 use Rattle.formats.proofs.Bytes.{bytes_drop}
 use Rattle.formats.proofs.Cells.{cells, of_cells}
 use Rattle.formats.proofs.Tests.{split, passed}
@@ -176,6 +176,11 @@ same_request {r = Read q k} {q = Read p l} e =
 same_request {r = Read q k} {q = Refused w} e = absurd (valued e)
 same_request {r = Refused w} {q = Read q k} e = absurd (valued (sym e))
 same_request {r = Refused w} {q = Refused x} e = ap Refused (ap (λ (a : Answer). a.number) e)
+
+-- what the code's answer says was found is what was found, where numbers and values are the same
+pub same_reading : (r : Result ReadRequest Refusal) {q : RequestRead} → answer_of request_values r ≡ request_answer q → reading_of r ≡ q
+same_reading (Ok r) e = same_request e
+same_reading (Err w) e = same_request e
 
 -- reading the written form of a request that passes 3 to 6, with anything after it, yields the request and exactly its bytes
 pub reading_undoes_writing_request : (q : Request) (t : List ℕ) → limit_of q ≡ 0 → Below (values_of q) → read_request (written q ++ t) ≡ Read q (length (written q))

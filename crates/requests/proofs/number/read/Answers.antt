@@ -4,7 +4,7 @@ use Rattle.std.proofs.Common.{ap, arith}
 use Rattle.requests.specs.Number.{number_answer}
 use Rattle.requests.proofs.number.Reading.{end, tenth, tenth_not, last_zero, only, last, next}
 use Rattle.requests.proofs.number.read.Goals as goal
-use Rattle.requests.proofs.number.read.Goals.{then-b-eq0+else-is_longer, else-b-eq0}
+use Rattle.requests.proofs.number.read.Goals.{else-b-eq0-via-then-b-eq0+else-is_longer, else-b-eq0-via-else-b-eq0}
 
 pub returns-then-b-eq1 : goal.returns-then-b-eq1
 returns-then-b-eq1 c = ap number_answer (tenth c.loop-i.invariant c.loop-i-test.true c.if-i-eq9.true c.if-b-eq1.true)
@@ -18,9 +18,9 @@ returns-then-is_longer c = ap number_answer (last_zero c.loop-i.invariant c.loop
 pub returns-then-b-lt128 : goal.returns-then-b-lt128
 returns-then-b-lt128 c =
     ap number_answer
-    (elim c.if-b-eq0.branch [
-      | then-b-eq0+else-is_longer w ↦ only c.loop-i.invariant c.loop-i-test.true c.if-i-eq9.false c.if-b-lt128.true (omega arith)
-      | else-b-eq0 w ↦ last c.loop-i.invariant c.loop-i-test.true c.if-i-eq9.false c.if-b-lt128.true w.if-b-eq0.false
+    (elim c.else-b-eq0.branch [
+      | else-b-eq0-via-then-b-eq0+else-is_longer w ↦ only c.loop-i.invariant c.loop-i-test.true c.if-i-eq9.false c.if-b-lt128.true (omega arith)
+      | else-b-eq0-via-else-b-eq0 w ↦ last c.loop-i.invariant c.loop-i-test.true c.if-i-eq9.false c.if-b-lt128.true w.if-b-eq0.false
     ])
 
 pub loop-i-preserved : goal.loop-i-preserved

@@ -1,10 +1,6 @@
 -- The bytes before place i are read as a value and a place.
-use Rattle.std.proofs.Common.{length, ◌-◌}
 use Rattle.requests.proofs.number.Reading.{Reading}
 use Rattle.requests.proofs.number.read.Given as goal
 
 abbrev pub invariant-loop-i : goal.invariant-loop-i
 invariant-loop-i l = Reading l.s l.value l.place l.i
-
-abbrev pub decreases-loop-i : goal.decreases-loop-i
-decreases-loop-i l = length l.s - l.i

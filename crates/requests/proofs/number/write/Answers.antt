@@ -6,8 +6,8 @@ use Rattle.formats.proofs.Part.{put_fitting}
 use Rattle.requests.proofs.number.Laws.{too_short, wrote}
 use Rattle.requests.proofs.number.write.Goals as goal
 
-pub returns-then-out-n : goal.returns-then-out-n
-returns-then-out-n c =
+pub returns-then-out-len : goal.returns-then-out-len
+returns-then-out-len c =
     let short = too_short (groups c.args.x) c.args.out.now (omega arith) in
     record { answer = short.0; bytes = short.1 }
 

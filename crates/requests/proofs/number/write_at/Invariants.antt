@@ -4,8 +4,5 @@ use Rattle.requests.specs.Number.{groups}
 use Rattle.formats.proofs.Stores.{Storing}
 use Rattle.requests.proofs.number.write_at.Given as goal
 
-abbrev pub invariant-loop-left : goal.invariant-loop-left
-invariant-loop-left l = Storing (fitting l.fn.out l.at (groups l.x)) l.fn.out l.at l.out l.i (fitting l.fn.out l.i (groups l.left))
-
-abbrev pub decreases-loop-left : goal.decreases-loop-left
-decreases-loop-left l = l.left
+abbrev pub invariant-loop-i : goal.invariant-loop-i
+invariant-loop-i l = Storing (fitting l.fn.out l.at (groups l.x)) l.fn.out l.at l.out l.i (fitting l.fn.out l.i (groups l.left))

@@ -1,25 +1,21 @@
 -- `requests::request::len`: the bytes counted and those of the numbers left make up the written form.
 -- Assumes nothing.
-use Rattle.std.proofs.Common.{ap, ◌∙◌, arith, length}
-use Rattle.requests.proofs.request.Packing.{within, schema_size, written_is, count_next, count_done}
+use Rattle.std.proofs.Common.{ℕ, List, ◌∙◌, ap, arith, length, get_or}
+use Rattle.requests.specs.Number.{groups}
+use Rattle.requests.proofs.request.Loops.{used_are, count_kind, count_next, count_done}
 use Rattle.requests.proofs.request.len.Goals as goal
 
-pub offset_bounds-values-i : goal.offset_bounds-values-i
-offset_bounds-values-i c = omega (arith, within c.loop-left.invariant.left_is c.loop-left-test.true (schema_size _))
+pub loop-value-init : goal.loop-value-init
+loop-value-init c = count_kind _ c.numbers_of-numbers.ensures c.len-n.ensures.count c.len-n.ensures.at_most_ten
 
-pub bounds-values-i : goal.bounds-values-i
-bounds-values-i c = within c.loop-left.invariant.left_is c.loop-left-test.true (schema_size _)
-
-pub overflow_add-n : goal.overflow_add-n
-overflow_add-n c = omega (arith, within c.loop-left.invariant.left_is c.loop-left-test.true (schema_size _))
-
-pub overflow_add-i : goal.overflow_add-i
-overflow_add-i c = omega (arith, within c.loop-left.invariant.left_is c.loop-left-test.true (schema_size _))
-
-pub loop-left-preserved : goal.loop-left-preserved
-loop-left-preserved c =
-    let next = c.len-n-in-loop-left in
-    count_next next.result c.loop-left.invariant c.loop-left-test.true (schema_size _) next.ensures.count next.ensures.at_most_ten
+pub loop-value-preserved : goal.loop-value-preserved
+loop-value-preserved c =
+    let next = c.len-n-in-loop-value.ensures in
+    let items = c.used-value-items.ensures ∙ used_are c.numbers_of-numbers.ensures in
+    count_next _ c.loop-value.invariant (omega (arith, ap length items))
+    (next.count ∙ ap (λ (vs : List ℕ). length (groups (get_or vs c.loop-value.value-index 0))) items) next.at_most_ten
 
 pub returns : goal.returns
-returns c = count_done c.loop-left.invariant c.loop-left-test.false ∙ ap length (written_is c.numbers_of-numbers.ensures)
+returns c =
+    let items = c.used-value-items.ensures ∙ used_are c.numbers_of-numbers.ensures in
+    count_done c.loop-value.invariant (omega (arith, ap length items))

@@ -1,26 +1,30 @@
 -- `requests::request::limit`: the loop finds no argument past its limit before the one that it stops at.
 -- Assumes nothing.
-use Rattle.std.proofs.Common.{◌∙◌, arith}
-use Rattle.requests.proofs.request.Packing.{same_argument, within, schema_size, limit_is, limit_met, limit_kept, limit_none}
+use Rattle.std.proofs.Common.{◌≡◌, ◌∙◌, ap, ap₂, rules}
+use Rattle.std.specs.Slice.Iter.{iter_rest}
+use Rattle.std.proofs.lemmas.Slice.Zip.{Zip-more, either_empty_from_Zip}
+use Rattle.formats.specs.Refusal.{answer_number, number_of}
+use Rattle.requests.specs.Request.{first_limit}
+use Rattle.requests.proofs.request.Loops.{limit_is, limit_kept, limit_met, limit_none}
 use Rattle.requests.proofs.request.limit.Goals as goal
 
-pub offset_bounds-values-i : goal.offset_bounds-values-i
-offset_bounds-values-i c = omega (arith, within c.loop-left.invariant.left_is c.loop-left-test.true (schema_size _))
+pub loop-argument-init : goal.loop-argument-init
+loop-argument-init c =
+    let zip = c.zip-argument-items.ensures in
+    rw c.into_iter-argument-iterator.ensures.into_iter_gives
+    (ap₂ first_limit (ap iter_rest zip.first ∙ c.iter.ensures.rest ∙ c.schema.ensures) zip.second.0 ∙ limit_is c.numbers_of-numbers.ensures)
 
-pub bounds-values-i : goal.bounds-values-i
-bounds-values-i c = within c.loop-left.invariant.left_is c.loop-left-test.true (schema_size _)
+pub loop-argument-preserved : goal.loop-argument-preserved
+loop-argument-preserved c =
+    limit_kept c.loop-argument.invariant (Zip-more c.loop-argument.argument-iterator c.next.new.self _ _ c.in-Some.is c.next.ensures.steps) c.in_ok-limit.ensures
 
-pub returns-then-w-ne0 : goal.returns-then-w-ne0
-returns-then-w-ne0 c =
-    limit_met c.loop-left.invariant c.loop-left-test.true (schema_size _) (same_argument c.argument_of.ensures) c.argument_limit-w.ensures c.if-w-ne0.true
-    ∙ limit_is c.numbers_of-numbers.ensures
-
-pub overflow_add-i : goal.overflow_add-i
-overflow_add-i c = omega (arith, within c.loop-left.invariant.left_is c.loop-left-test.true (schema_size _))
-
-pub loop-left-preserved : goal.loop-left-preserved
-loop-left-preserved c =
-    limit_kept c.loop-left.invariant c.loop-left-test.true (schema_size _) (same_argument c.argument_of.ensures) c.argument_limit-w.ensures c.if-w-ne0.false
+pub returns-in_err-limit : goal.returns-in_err-limit
+returns-in_err-limit c =
+    let e : answer_number c.from_residual.result ≡ number_of c.in_err-limit.field-0.0 = search rules in
+    e
+    ∙ limit_met c.loop-argument.invariant (Zip-more c.loop-argument.argument-iterator c.next.new.self _ _ c.in-Some.is c.next.ensures.steps) c.in_err-limit.field-0.0
+    c.in_err-limit.ensures
 
 pub returns : goal.returns
-returns c = limit_none c.loop-left.invariant c.loop-left-test.false ∙ limit_is c.numbers_of-numbers.ensures
+returns c =
+    limit_none c.loop-argument.invariant (either_empty_from_Zip c.loop-argument.argument-iterator c.next.new.self _ c.in-None.is c.next.ensures.steps)

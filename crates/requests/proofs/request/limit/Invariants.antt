@@ -1,10 +1,9 @@
--- No argument before place i is past its limit.
-use Rattle.requests.specs.Request.{schema}
-use Rattle.requests.proofs.request.Packing.{Limiting}
+-- The arguments left have the first limit that is met.
+use Rattle.std.proofs.Common.{◌≡◌}
+use Rattle.std.specs.Iterator.Adapters.{zip_first, zip_second}
+use Rattle.std.specs.Slice.Iter.{iter_rest}
+use Rattle.requests.specs.Request.{first_limit, limit_of}
 use Rattle.requests.proofs.request.limit.Given as goal
 
-abbrev pub invariant-loop-left : goal.invariant-loop-left
-invariant-loop-left l = Limiting (schema l.kind) l.values l.left l.i
-
-abbrev pub decreases-loop-left : goal.decreases-loop-left
-decreases-loop-left l = l.left
+abbrev pub invariant-loop-argument : goal.invariant-loop-argument
+invariant-loop-argument l = first_limit (iter_rest (zip_first l.argument-iterator)) (iter_rest (zip_second l.argument-iterator)) ≡ limit_of l.fn.request
