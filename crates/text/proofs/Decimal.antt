@@ -1,20 +1,22 @@
 -- The laws of decimal digits: a number below 10 is its digit, and else the digits of n / 10 stand before the last one.
 -- Assumes nothing.
 use Prim.Native.Nat.{ℕ, zero, suc, ◌+◌, ◌-◌, ◌*◌, ◌/◌, ◌%◌, ◌^◌, ◌≤◌, ◌<◌}
-use mathlib.Core.Path.{◌≡◌, refl, ap, ◌∙◌}
-use mathlib.Core.List.{List, [], ◌∷◌, ◌++◌}
+use mathlib.Core.Path.{◌≡◌, refl, sym, ap, ap₂, ◌∙◌}
+use mathlib.Core.List.{List, [], ◌∷◌, ◌++◌, append_assoc, append-nil}
 use mathlib.Core.Bool.{Bool, true, false}
 use native.Mathlib.Omega.{arith}
-use native.Mathlib.Nat.{pow-succ'}
+use native.Mathlib.Nat.{pow-suc, pow-succ', one-le-pow}
 use native.Mathlib.Decide.{dec_lt}
 use borrow.Author.Tests.{ltb-false, lt-ltb, le-ltb}
 use lib.Dec.{ltb}
-use lib.ListN.{length, set, length-append}
+use lib.ListN.{length, set, take, drop, length-append, take-append-drop}
+use Rattle.std.specs.Prelude.{decimal as printed}
+use Rattle.std.specs.Fmt.{digits_onto, digits as library-digits}
 use Rattle.formats.specs.Part.{put}
 use Rattle.formats.proofs.Bytes.{Listed, none, more, then}
 use Rattle.formats.proofs.Part.{put_length, put_next, set_put}
-use Rattle.text.specs.Text.{decimal_in, decimal, field, placed, place_after}
-use Rattle.text.proofs.Placed.{does_fit}
+use Rattle.text.specs.Text.{decimal_in, decimal, field, placed}
+use Rattle.text.proofs.Placed.{placed_put}
 
 -- the count of digits allowed does not matter, once it is enough
 enough : (k m : ℕ) (b : Bool) (n : ℕ) → ltb n 10 ≡ b → n ≤ k → n ≤ m → decimal_in k b n ≡ decimal_in m b n
@@ -78,27 +80,61 @@ length_most (suc k) n h =
       | no s ↦ omega (arith, length_more n (omega arith), length_most k (n / 10) (omega (arith, pow-succ' 10 k)))
     ]
 
+-- k + 1 digits, where it is 10 ^ k or more besides
+pub length_power : (k n : ℕ) → 10 ^ k ≤ n → n < 10 * 10 ^ k → length (decimal n) ≡ k + 1
+length_power zero n h g = length_last n (omega arith)
+length_power (suc k) n h g =
+    let more : 10 ≤ n = omega (arith, pow-succ' 10 k, one-le-pow k 10 (omega arith)) in
+    omega (arith, length_more n more, length_power k (n / 10) (omega (arith, pow-succ' 10 k)) (omega (arith, pow-succ' 10 k)))
+
+-- the digits that the library puts before others, where it allows for as many as there are
+onto : (k n : ℕ) (after : List ℕ) → n < 10 ^ suc k → digits_onto (suc k) 10 false n after ≡ decimal n ++ after
+onto zero n after h =
+    let last : n % 10 ≡ n = omega arith in
+    rw (decimal_last n (omega arith)) (grind (arith, last))
+onto (suc k) n after h =
+    elim (dec_lt n 10) [
+      | yes s ↦ rw (decimal_last n s) (grind arith)
+      | no s ↦ rw (decimal_more n (omega arith), append_assoc) (grind (arith, onto k (n / 10) ((48 + n % 10) ∷ after) (omega (arith, pow-suc 10 (suc k)))))
+    ]
+
+pub as_printed : (n : ℕ) → n < 2 ^ 64 → decimal n ≡ printed n
+unfolding library-digits
+as_printed n h = sym (onto 63 n [] (omega arith) ∙ append-nil (decimal n))
+
 -- a number and the byte that ends it
 pub field_length : (n end : ℕ) → length (field n end) ≡ length (decimal n) + 1
 unfolding field
 field_length n end = length-append (decimal n) (end ∷ [])
 
--- stored one after the other
-pub ended : (out : List ℕ) (at n end : ℕ) {k : ℕ} {m : List ℕ} → k ≡ length (decimal n) → at + k < length out
-    → m ≡ put out (at + k - length (decimal n)) (decimal n)
-    → (at + k + 1 ≡ place_after out at (field n end)) × (set m (at + k) end ≡ placed out at (field n end))
+-- bytes that were written so that they end at a place, and all else as it was
+stands : (out p : List ℕ) (start to : ℕ) (m : List ℕ) → start + length p ≡ to → drop start m ≡ p ++ drop to out → take start m ≡ take start out → m ≡ put out start p
+unfolding put
+stands out p start to m from written before =
+    sym (take-append-drop start m) ∙ ap₂ ◌++◌ before (written ∙ ap (λ (k : ℕ). p ++ drop k out) (sym from))
+
+-- the library's digits end where there is room for them
+pub room_before : (out : List ℕ) (at n : ℕ) {after : ℕ} → n < 2 ^ 64 → after ≡ at + (length (decimal n) + 1) → after ≤ length out
+    → (length (printed n) ≤ after - 1) × (after - 1 ≤ length out)
+room_before out at n small place room = rw (sym (as_printed n small)) (omega arith, omega arith)
+
+-- and make up the whole, once the byte behind them is stored
+pub ended : (out : List ℕ) (at n end : ℕ) {after : ℕ} (start : ℕ) (m : List ℕ) → n < 2 ^ 64 → after ≡ at + (length (decimal n) + 1) → after ≤ length out
+    → start + length (printed n) ≡ after - 1 → drop start m ≡ printed n ++ drop (after - 1) out → take start m ≡ take start out
+    → set m (after - 1) end ≡ placed out at (field n end)
 unfolding field
-ended out at n end {k} {m} digits room written =
-    let front : at + k - length (decimal n) ≡ at = omega arith in
-    let behind : at + k ≡ at + length (decimal n) = omega arith in
+ended out at n end {after} start m small place room from written before =
+    let library : decimal n ≡ printed n = as_printed n small in
+    let count : length (decimal n) ≡ length (printed n) = ap length library in
     let whole = field_length n end in
-    let is : m ≡ put out at (decimal n) = written ∙ ap (λ (p : ℕ). put out p (decimal n)) front in
+    let front : start ≡ at = omega arith in
+    let behind : after - 1 ≡ at + length (decimal n) = omega arith in
+    let is : m ≡ put out at (decimal n) = stands out (printed n) start (after - 1) m from written before ∙ ap₂ (λ (k : ℕ) (p : List ℕ). put out k p) front (sym library) in
     let size : length m ≡ length out = ap length is ∙ put_length out (decimal n) at (omega arith) in
-    does_fit out at (field n end) (omega arith) (omega arith)
-    (set_put m (at + k) end (omega arith)
-    ∙ ap (λ (p : ℕ). put m p (end ∷ [])) behind
-    ∙ ap (λ (l : List ℕ). put l (at + length (decimal n)) (end ∷ [])) is
-    ∙ put_next out (decimal n) (end ∷ []) at (omega arith))
+    set_put m (after - 1) end (omega arith)
+    ∙ ap₂ (λ (l : List ℕ) (k : ℕ). put l k (end ∷ [])) is behind
+    ∙ put_next out (decimal n) (end ∷ []) at (omega arith)
+    ∙ sym (placed_put out at (field n end) (omega arith))
 
 -- all of it is bytes
 decimal_listed : (n : ℕ) → Listed (decimal n)
