@@ -1,6 +1,6 @@
 -- The laws of decimal digits: a number below 10 is its digit, and else the digits of n / 10 stand before the last one.
 -- Assumes nothing.
-use Prim.Native.Nat.{ℕ, zero, suc, ◌+◌, ◌-◌, ◌*◌, ◌/◌, ◌%◌, ◌^◌, ◌≤◌, ◌<◌}
+use Prim.Native.Nat.{ℕ, zero, suc, ◌+◌, ◌*◌, ◌/◌, ◌%◌, ◌^◌, ◌≤◌, ◌<◌}
 use mathlib.Core.Path.{◌≡◌, refl, sym, ap, ap₂, ◌∙◌}
 use mathlib.Core.List.{List, [], ◌∷◌, ◌++◌, append_assoc, append-nil}
 use mathlib.Core.Bool.{Bool, true, false}
@@ -114,25 +114,24 @@ stands out p start to m from written before =
     sym (take-append-drop start m) ∙ ap₂ ◌++◌ before (written ∙ ap (λ (k : ℕ). p ++ drop k out) (sym from))
 
 -- the library's digits end where there is room for them
-pub room_before : (out : List ℕ) (at n : ℕ) {after : ℕ} → n < 2 ^ 64 → after ≡ at + (length (decimal n) + 1) → after ≤ length out
-    → (length (printed n) ≤ after - 1) × (after - 1 ≤ length out)
-room_before out at n small place room = rw (sym (as_printed n small)) (omega arith, omega arith)
+pub room_before : (out : List ℕ) (at n : ℕ) {k : ℕ} → n < 2 ^ 64 → k ≡ length (decimal n) → at + (k + 1) ≤ length out
+    → (length (printed n) ≤ at + k) × (at + k ≤ length out)
+room_before out at n small digits room = rw (sym (as_printed n small)) (omega arith, omega arith)
 
 -- and make up the whole, once the byte behind them is stored
-pub ended : (out : List ℕ) (at n end : ℕ) {after : ℕ} (start : ℕ) (m : List ℕ) → n < 2 ^ 64 → after ≡ at + (length (decimal n) + 1) → after ≤ length out
-    → start + length (printed n) ≡ after - 1 → drop start m ≡ printed n ++ drop (after - 1) out → take start m ≡ take start out
-    → set m (after - 1) end ≡ placed out at (field n end)
+pub ended : (out : List ℕ) (at n end : ℕ) {k : ℕ} (start : ℕ) (m : List ℕ) → n < 2 ^ 64 → k ≡ length (decimal n) → at + (k + 1) ≤ length out
+    → start + length (printed n) ≡ at + k → drop start m ≡ printed n ++ drop (at + k) out → take start m ≡ take start out
+    → set m (at + k) end ≡ placed out at (field n end)
 unfolding field
-ended out at n end {after} start m small place room from written before =
+ended out at n end {k} start m small digits room from written before =
     let library : decimal n ≡ printed n = as_printed n small in
     let count : length (decimal n) ≡ length (printed n) = ap length library in
     let whole = field_length n end in
     let front : start ≡ at = omega arith in
-    let behind : after - 1 ≡ at + length (decimal n) = omega arith in
-    let is : m ≡ put out at (decimal n) = stands out (printed n) start (after - 1) m from written before ∙ ap₂ (λ (k : ℕ) (p : List ℕ). put out k p) front (sym library) in
+    let is : m ≡ put out at (decimal n) = stands out (printed n) start (at + k) m from written before ∙ ap₂ (λ (a : ℕ) (p : List ℕ). put out a p) front (sym library) in
     let size : length m ≡ length out = ap length is ∙ put_length out (decimal n) at (omega arith) in
-    set_put m (after - 1) end (omega arith)
-    ∙ ap₂ (λ (l : List ℕ) (k : ℕ). put l k (end ∷ [])) is behind
+    set_put m (at + k) end (omega arith)
+    ∙ ap₂ (λ (l : List ℕ) (i : ℕ). put l (at + i) (end ∷ [])) is digits
     ∙ put_next out (decimal n) (end ∷ []) at (omega arith)
     ∙ sym (placed_put out at (field n end) (omega arith))
 

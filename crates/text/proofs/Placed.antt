@@ -23,10 +23,10 @@ module _ (out : List ℕ) (at : ℕ) (bytes : List ℕ) where
   fits h e = rw (le-leb (at + length bytes) (length out) h) at e
 
   -- the bytes copied into a part that was lent
-  pub copied : {end : ℕ} {p : List ℕ} → end ≡ at + length bytes → end ≤ length out → p ≡ bytes → put_mid at (end - at) out p ≡ placed out at bytes
-  copied {end} {p} place room is =
-      let count : length p ≡ end - at = omega (arith, ap length is) in
-      back at (end - at) out p count ∙ ap (put out at) is ∙ sym (placed_put (omega arith))
+  pub copied : {p : List ℕ} → at + length bytes ≤ length out → p ≡ bytes → put_mid at ((at + length bytes) - at) out p ≡ placed out at bytes
+  copied {p} room is =
+      let count : length p ≡ (at + length bytes) - at = omega (arith, ap length is) in
+      back at ((at + length bytes) - at) out p count ∙ ap (put out at) is ∙ sym (placed_put room)
 
 -- in a row of such writers, each goes on where the one before it ended; there is room for all of it
 pub next : {w out₀ : List ℕ} {a : ℕ} {out : List ℕ} {i : ℕ} {left : List ℕ} (p : List ℕ) {m : List ℕ} {r : ℕ} → a + length w ≤ length out₀

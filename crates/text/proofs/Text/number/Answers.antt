@@ -4,13 +4,11 @@ use Rattle.std.proofs.Common.{arith}
 use Rattle.text.proofs.Decimal.{room_before, ended}
 use Rattle.text.proofs.Text.number.Goals as goal
 
-pub write_digits-requires : goal.write_digits-requires
-write_digits-requires c =
-    let e = c.in-Some.ensures in
-    room_before c.args.self.now.out.now c.args.self.now.at c.args.n (omega arith) (omega arith) e.room
+pub write_digits-self-requires : goal.write_digits-self-requires
+write_digits-self-requires c =
+    room_before c.args.self.now.out.now c.args.self.now.at c.args.n (omega arith) c.len-digits.ensures.digits (omega arith)
 
-pub returns-in-Some-clause-written : goal.returns-in-Some-clause-written
-returns-in-Some-clause-written c =
-    let e = c.in-Some.ensures in
-    let w = c.write_digits.ensures in
-    ended c.args.self.now.out.now c.args.self.now.at c.args.n c.args.end _ _ (omega arith) (omega arith) e.room w.start w.written w.before
+pub returns-then-has_room-clause-written : goal.returns-then-has_room-clause-written
+returns-then-has_room-clause-written c =
+    let w = c.write_digits-self.ensures in
+    ended c.args.self.now.out.now c.args.self.now.at c.args.n c.args.end _ _ (omega arith) c.len-digits.ensures.digits (omega arith) w.start w.written w.before
