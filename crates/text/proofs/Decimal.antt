@@ -2,16 +2,16 @@
 -- Assumes nothing.
 use Prim.Native.Nat.{ℕ, zero, suc, ◌+◌, ◌*◌, ◌/◌, ◌%◌, ◌^◌, ◌≤◌, ◌<◌}
 use mathlib.Core.Path.{◌≡◌, refl, sym, ap, ap₂, ◌∙◌}
-use mathlib.Core.List.{List, [], ◌∷◌, ◌++◌, append_assoc, append-nil}
+use mathlib.Core.List.{List, [], ◌∷◌, ◌++◌}
 use mathlib.Core.Bool.{Bool, true, false}
 use native.Mathlib.Omega.{arith}
-use native.Mathlib.Nat.{pow-suc, pow-succ', one-le-pow}
+use native.Mathlib.Nat.{pow-succ'}
 use native.Mathlib.Decide.{dec_lt}
 use borrow.Author.Tests.{ltb-false, lt-ltb, le-ltb}
 use lib.Dec.{ltb}
 use lib.ListN.{length, set, take, drop, length-append, take-append-drop}
 use Rattle.std.specs.Prelude.{decimal as printed}
-use Rattle.std.specs.Fmt.{digits_onto, digits as library-digits}
+use Rattle.std.proofs.lemmas.Fmt.{decimal_by_steps}
 use Rattle.formats.specs.Part.{put}
 use Rattle.formats.proofs.Bytes.{Listed, none, more, then}
 use Rattle.formats.proofs.Part.{put_length, put_next, set_put}
@@ -80,27 +80,9 @@ length_most (suc k) n h =
       | no s ↦ omega (arith, length_more n (omega arith), length_most k (n / 10) (omega (arith, pow-succ' 10 k)))
     ]
 
--- k + 1 digits, where it is 10 ^ k or more besides
-pub length_power : (k n : ℕ) → 10 ^ k ≤ n → n < 10 * 10 ^ k → length (decimal n) ≡ k + 1
-length_power zero n h g = length_last n (omega arith)
-length_power (suc k) n h g =
-    let more : 10 ≤ n = omega (arith, pow-succ' 10 k, one-le-pow k 10 (omega arith)) in
-    omega (arith, length_more n more, length_power k (n / 10) (omega (arith, pow-succ' 10 k)) (omega (arith, pow-succ' 10 k)))
-
--- the digits that the library puts before others, where it allows for as many as there are
-onto : (k n : ℕ) (after : List ℕ) → n < 10 ^ suc k → digits_onto (suc k) 10 false n after ≡ decimal n ++ after
-onto zero n after h =
-    let last : n % 10 ≡ n = omega arith in
-    rw (decimal_last n (omega arith)) (grind (arith, last))
-onto (suc k) n after h =
-    elim (dec_lt n 10) [
-      | yes s ↦ rw (decimal_last n s) (grind arith)
-      | no s ↦ rw (decimal_more n (omega arith), append_assoc) (grind (arith, onto k (n / 10) ((48 + n % 10) ∷ after) (omega (arith, pow-suc 10 (suc k)))))
-    ]
-
+-- they are those that the library prints of 64 bits
 pub as_printed : (n : ℕ) → n < 2 ^ 64 → decimal n ≡ printed n
-unfolding library-digits
-as_printed n h = sym (onto 63 n [] (omega arith) ∙ append-nil (decimal n))
+as_printed = decimal_by_steps (λ n ds. decimal n ≡ ds) decimal_last (λ n ds h e. decimal_more n h ∙ ap (λ (l : List ℕ). l ++ ((48 + n % 10) ∷ [])) e)
 
 -- a number and the byte that ends it
 pub field_length : (n end : ℕ) → length (field n end) ≡ length (decimal n) + 1
