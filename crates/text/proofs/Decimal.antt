@@ -80,9 +80,15 @@ length_most (suc k) n h =
       | no s ↦ omega (arith, length_more n (omega arith), length_most k (n / 10) (omega (arith, pow-succ' 10 k)))
     ]
 
+pub length_word : (n : ℕ) → n < 2 ^ 64 → length (decimal n) ≤ 20
+length_word n h = length_most 19 n (omega arith)
+
 -- they are those that the library prints of 64 bits
 pub as_printed : (n : ℕ) → n < 2 ^ 64 → decimal n ≡ printed n
 as_printed = decimal_by_steps (λ n ds. decimal n ≡ ds) decimal_last (λ n ds h e. decimal_more n h ∙ ap (λ (l : List ℕ). l ++ ((48 + n % 10) ∷ [])) e)
+
+pub printed_length : (n : ℕ) → n < 2 ^ 64 → length (printed n) ≡ length (decimal n)
+printed_length n h = ap length (sym (as_printed n h))
 
 -- a number and the byte that ends it
 pub field_length : (n end : ℕ) → length (field n end) ≡ length (decimal n) + 1
@@ -95,19 +101,14 @@ unfolding put
 stands out p start to m from written before =
     sym (take-append-drop start m) ∙ ap₂ ◌++◌ before (written ∙ ap (λ (k : ℕ). p ++ drop k out) (sym from))
 
--- the library's digits end where there is room for them
-pub room_before : (out : List ℕ) (at n : ℕ) {k : ℕ} → n < 2 ^ 64 → k ≡ length (decimal n) → at + (k + 1) ≤ length out
-    → (length (printed n) ≤ at + k) × (at + k ≤ length out)
-room_before out at n small digits room = rw (sym (as_printed n small)) (omega arith, omega arith)
-
--- and make up the whole, once the byte behind them is stored
+-- the library's digits and the byte behind them make up the whole, once that byte is stored
 pub ended : (out : List ℕ) (at n end : ℕ) {k : ℕ} (start : ℕ) (m : List ℕ) → n < 2 ^ 64 → k ≡ length (decimal n) → at + (k + 1) ≤ length out
     → start + length (printed n) ≡ at + k → drop start m ≡ printed n ++ drop (at + k) out → take start m ≡ take start out
     → set m (at + k) end ≡ placed out at (field n end)
 unfolding field
 ended out at n end {k} start m small digits room from written before =
     let library : decimal n ≡ printed n = as_printed n small in
-    let count : length (decimal n) ≡ length (printed n) = ap length library in
+    let count = printed_length n small in
     let whole = field_length n end in
     let front : start ≡ at = omega arith in
     let is : m ≡ put out at (decimal n) = stands out (printed n) start (at + k) m from written before ∙ ap₂ (λ (a : ℕ) (p : List ℕ). put out a p) front (sym library) in

@@ -6,6 +6,7 @@ ghost use Rattle.std.specs.Prelude.{◌≡◌, ◌+◌, ◌≤◌, ◌↔◌, le
 ghost use Rattle.text.specs.Text.{decimal, field, placed, place_after};
 
 // How many digits a number has. The loop stays: `checked_ilog10` takes twice its time for the short numbers that a sheet has.
+#[tactic(auto, using(crate::proofs::Decimal::length_last, crate::proofs::Decimal::length_more, crate::proofs::Decimal::length_word))]
 pub fn len(n: u64) -> usize
     ensures digits { result ≡ length (decimal n) }
     ensures at_most_20 { result ≤ 20 }
@@ -35,7 +36,7 @@ impl<'a> Text<'a> {
     }
 
     // Writes a number, and behind it the byte that ends it, a space or a line end.
-    #[tactic(auto, unfolding(crate::specs::Text::field, crate::specs::Text::placed, crate::specs::Text::place_after))]
+    #[tactic(auto, using(crate::proofs::Decimal::printed_length, crate::proofs::Decimal::ended), unfolding(crate::specs::Text::field, crate::specs::Text::placed, crate::specs::Text::place_after))]
     #[inline]
     pub fn number(&mut self, n: u64, end: u8)
         ensures place { self.new.at ≡ place_after self.old.out.now self.old.at (field n end) }
@@ -52,7 +53,7 @@ impl<'a> Text<'a> {
     }
 
     // Writes a word, which stands in the buffer as it is.
-    #[tactic(auto, unfolding(crate::specs::Text::placed, crate::specs::Text::place_after))]
+    #[tactic(auto, using(crate::proofs::Placed::copied), unfolding(crate::specs::Text::placed, crate::specs::Text::place_after))]
     #[inline]
     pub fn word(&mut self, word: &[u8])
         ensures place { self.new.at ≡ place_after self.old.out.now self.old.at word.now }
