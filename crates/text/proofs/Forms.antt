@@ -3,18 +3,14 @@
 use Prim.Native.Nat.{ℕ, zero, suc, ◌+◌, ◌-◌, ◌*◌, ◌/◌, ◌%◌, ◌^◌, ◌≤◌, ◌<◌}
 use mathlib.Core.Path.{◌≡◌, sym, ap, ◌∙◌}
 use mathlib.Core.Logic.{◌≢◌}
-use mathlib.Core.List.{List, [], ◌∷◌, ◌++◌, append_assoc, append-nil}
-use mathlib.Core.Bool.{false}
+use mathlib.Core.List.{List, [], ◌∷◌, ◌++◌}
 use native.Mathlib.Omega.{arith}
 use native.Mathlib.Nat.{pow-suc, mul_assoc}
-use native.Mathlib.Decide.{dec_lt}
 use native.Mathlib.Numerals.{add-one}
 use lib.ListN.{length, get_or, length-append, get_or-append}
-use Rattle.std.specs.Prelude.{decimal as printed}
-use Rattle.std.specs.Fmt.{digits_onto, digits as library-digits}
 use Rattle.text.specs.Text.{decimal}
 use Rattle.text.specs.Forms.{value_of, DecimalForm}
-use Rattle.text.proofs.decimal.Laws.{decimal_last, decimal_more, by_digits, length_from}
+use Rattle.text.proofs.Decimal.{decimal_last, decimal_more, by_digits, length_from, as_printed}
 
 -- one more digit at the end
 value_more : (ds : List ℕ) (d : ℕ) → value_of (ds ++ (d ∷ [])) ≡ value_of ds * 10 + (d - 48)
@@ -56,21 +52,6 @@ first_digit =
     by_digits (λ n. 1 ≤ n → get_or (decimal n) 0 0 ≢ 48) (λ n h some. rw (decimal_last n h) (omega arith))
     (λ n h ih some.
     rw (ap (λ (l : List ℕ). get_or l 0 0) (decimal_more n h) ∙ get_or-append (decimal (n / 10)) ((48 + n % 10) ∷ []) 0 0 (length_from (n / 10))) (ih (omega arith)))
-
--- the digits that the library puts before others, where it allows for as many as there are
-onto : (k n : ℕ) (after : List ℕ) → n < 10 ^ suc k → digits_onto (suc k) 10 false n after ≡ decimal n ++ after
-onto zero n after h =
-    let last : n % 10 ≡ n = omega arith in
-    rw (decimal_last n (omega arith)) (grind (arith, last))
-onto (suc k) n after h =
-    elim (dec_lt n 10) [
-      | yes s ↦ rw (decimal_last n s) (grind arith)
-      | no s ↦ rw (decimal_more n (omega arith), append_assoc) (grind (arith, onto k (n / 10) ((48 + n % 10) ∷ after) (omega (arith, pow-suc 10 (suc k)))))
-    ]
-
-as_printed : (n : ℕ) → n < 2 ^ 64 → decimal n ≡ printed n
-unfolding library-digits
-as_printed n h = sym (onto 63 n [] (omega arith) ∙ append-nil (decimal n))
 
 pub decimal_form : DecimalForm
 decimal_form = record { digits = λ n. at (digits n); stands_for = stands_for; shortest = λ n h. first_digit n (omega arith); single = decimal_last; as_printed = as_printed }

@@ -1,26 +1,32 @@
 -- Bytes placed in a buffer that has room for them: one text, texts in a row, a text at the front of a buffer.
 -- Assumes nothing.
-use Prim.Native.Nat.{ℕ, ◌+◌, ◌≤◌}
+use Prim.Native.Nat.{ℕ, ◌+◌, ◌-◌, ◌≤◌}
 use mathlib.Core.Path.{◌≡◌, refl, sym, ap, ap₂, ◌∙◌}
 use mathlib.Core.List.{List, ◌++◌, append-nil}
 use native.Mathlib.Omega.{arith}
 use borrow.Author.Tests.{le-leb}
 use lib.ListN.{length, take, length-append}
 use Rattle.formats.specs.Part.{put}
-use Rattle.formats.proofs.Part.{put_length, part_put_same}
+use borrow.Rule.Slice.PartMut.{put_mid}
+use Rattle.formats.proofs.Part.{put_length, part_put_same, back}
 use Rattle.formats.proofs.Stores.{Storing, store_all, stored}
 use Rattle.text.specs.Text.{placed, place_after}
 
 module _ (out : List ℕ) (at : ℕ) (bytes : List ℕ) where
+  pub placed_put : at + length bytes ≤ length out → placed out at bytes ≡ put out at bytes
+  unfolding placed
+  placed_put h = rw (le-leb (at + length bytes) (length out) h) refl
+
   pub fits : {m : List ℕ} {r : ℕ} → at + length bytes ≤ length out → (r ≡ place_after out at bytes) × (m ≡ placed out at bytes)
       → (r ≡ at + length bytes) × (m ≡ put out at bytes)
   unfolding placed place_after
   fits h e = rw (le-leb (at + length bytes) (length out) h) at e
 
-  pub does_fit : {m : List ℕ} {r : ℕ} → at + length bytes ≤ length out → r ≡ at + length bytes → m ≡ put out at bytes
-      → (r ≡ place_after out at bytes) × (m ≡ placed out at bytes)
-  unfolding placed place_after
-  does_fit h e f = rw (le-leb (at + length bytes) (length out) h) (e, f)
+  -- the bytes copied into a part that was lent
+  pub copied : {p : List ℕ} → at + length bytes ≤ length out → p ≡ bytes → put_mid at ((at + length bytes) - at) out p ≡ placed out at bytes
+  copied {p} room is =
+      let count : length p ≡ (at + length bytes) - at = omega (arith, ap length is) in
+      back at ((at + length bytes) - at) out p count ∙ ap (put out at) is ∙ sym (placed_put room)
 
 -- in a row of such writers, each goes on where the one before it ended; there is room for all of it
 pub next : {w out₀ : List ℕ} {a : ℕ} {out : List ℕ} {i : ℕ} {left : List ℕ} (p : List ℕ) {m : List ℕ} {r : ℕ} → a + length w ≤ length out₀

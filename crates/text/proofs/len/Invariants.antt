@@ -2,7 +2,7 @@
 -- Assumes nothing.
 use Rattle.std.proofs.Common.{◌+◌, ◌≡◌, ◌≤◌, length}
 use Rattle.text.specs.Text.{decimal}
-use Rattle.text.proofs.decimal.len.Given as goal
+use Rattle.text.proofs.len.Given as goal
 
 abbrev pub invariant-loop-left : goal.invariant-loop-left
 invariant-loop-left l = record { counted : l.count + length (decimal l.left) ≡ 1 + length (decimal l.n); small : l.count + l.left ≤ 1 + l.n }

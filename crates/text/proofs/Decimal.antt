@@ -1,7 +1,7 @@
 -- The laws of decimal digits: a number below 10 is its digit, and else the digits of n / 10 stand before the last one.
 -- Assumes nothing.
-use Prim.Native.Nat.{ℕ, zero, suc, ◌+◌, ◌-◌, ◌*◌, ◌/◌, ◌%◌, ◌^◌, ◌≤◌, ◌<◌}
-use mathlib.Core.Path.{◌≡◌, refl, ap, ◌∙◌}
+use Prim.Native.Nat.{ℕ, zero, suc, ◌+◌, ◌*◌, ◌/◌, ◌%◌, ◌^◌, ◌≤◌, ◌<◌}
+use mathlib.Core.Path.{◌≡◌, refl, sym, ap, ap₂, ◌∙◌}
 use mathlib.Core.List.{List, [], ◌∷◌, ◌++◌}
 use mathlib.Core.Bool.{Bool, true, false}
 use native.Mathlib.Omega.{arith}
@@ -9,12 +9,14 @@ use native.Mathlib.Nat.{pow-succ'}
 use native.Mathlib.Decide.{dec_lt}
 use borrow.Author.Tests.{ltb-false, lt-ltb, le-ltb}
 use lib.Dec.{ltb}
-use lib.ListN.{length, set, length-append}
+use lib.ListN.{length, set, take, drop, length-append, take-append-drop}
+use Rattle.std.specs.Prelude.{decimal as printed}
+use Rattle.std.proofs.lemmas.Fmt.{decimal_by_steps}
 use Rattle.formats.specs.Part.{put}
 use Rattle.formats.proofs.Bytes.{Listed, none, more, then}
 use Rattle.formats.proofs.Part.{put_length, put_next, set_put}
-use Rattle.text.specs.Text.{decimal_in, decimal, field, placed, place_after}
-use Rattle.text.proofs.Placed.{does_fit}
+use Rattle.text.specs.Text.{decimal_in, decimal, field, placed}
+use Rattle.text.proofs.Placed.{placed_put}
 
 -- the count of digits allowed does not matter, once it is enough
 enough : (k m : ℕ) (b : Bool) (n : ℕ) → ltb n 10 ≡ b → n ≤ k → n ≤ m → decimal_in k b n ≡ decimal_in m b n
@@ -78,27 +80,43 @@ length_most (suc k) n h =
       | no s ↦ omega (arith, length_more n (omega arith), length_most k (n / 10) (omega (arith, pow-succ' 10 k)))
     ]
 
+pub length_word : (n : ℕ) → n < 2 ^ 64 → length (decimal n) ≤ 20
+length_word n h = length_most 19 n (omega arith)
+
+-- they are those that the library prints of 64 bits
+pub as_printed : (n : ℕ) → n < 2 ^ 64 → decimal n ≡ printed n
+as_printed = decimal_by_steps (λ n ds. decimal n ≡ ds) decimal_last (λ n ds h e. decimal_more n h ∙ ap (λ (l : List ℕ). l ++ ((48 + n % 10) ∷ [])) e)
+
+pub printed_length : (n : ℕ) → n < 2 ^ 64 → length (printed n) ≡ length (decimal n)
+printed_length n h = ap length (sym (as_printed n h))
+
 -- a number and the byte that ends it
 pub field_length : (n end : ℕ) → length (field n end) ≡ length (decimal n) + 1
 unfolding field
 field_length n end = length-append (decimal n) (end ∷ [])
 
--- stored one after the other
-pub ended : (out : List ℕ) (at n end : ℕ) {k : ℕ} {m : List ℕ} → k ≡ length (decimal n) → at + k < length out
-    → m ≡ put out (at + k - length (decimal n)) (decimal n)
-    → (at + k + 1 ≡ place_after out at (field n end)) × (set m (at + k) end ≡ placed out at (field n end))
+-- bytes that were written so that they end at a place, and all else as it was
+stands : (out p : List ℕ) (start to : ℕ) (m : List ℕ) → start + length p ≡ to → drop start m ≡ p ++ drop to out → take start m ≡ take start out → m ≡ put out start p
+unfolding put
+stands out p start to m from written before =
+    sym (take-append-drop start m) ∙ ap₂ ◌++◌ before (written ∙ ap (λ (k : ℕ). p ++ drop k out) (sym from))
+
+-- the library's digits and the byte behind them make up the whole, once that byte is stored
+pub ended : (out : List ℕ) (at n end : ℕ) {k : ℕ} (start : ℕ) (m : List ℕ) → n < 2 ^ 64 → k ≡ length (decimal n) → at + (k + 1) ≤ length out
+    → start + length (printed n) ≡ at + k → drop start m ≡ printed n ++ drop (at + k) out → take start m ≡ take start out
+    → set m (at + k) end ≡ placed out at (field n end)
 unfolding field
-ended out at n end {k} {m} digits room written =
-    let front : at + k - length (decimal n) ≡ at = omega arith in
-    let behind : at + k ≡ at + length (decimal n) = omega arith in
+ended out at n end {k} start m small digits room from written before =
+    let library : decimal n ≡ printed n = as_printed n small in
+    let count = printed_length n small in
     let whole = field_length n end in
-    let is : m ≡ put out at (decimal n) = written ∙ ap (λ (p : ℕ). put out p (decimal n)) front in
+    let front : start ≡ at = omega arith in
+    let is : m ≡ put out at (decimal n) = stands out (printed n) start (at + k) m from written before ∙ ap₂ (λ (a : ℕ) (p : List ℕ). put out a p) front (sym library) in
     let size : length m ≡ length out = ap length is ∙ put_length out (decimal n) at (omega arith) in
-    does_fit out at (field n end) (omega arith) (omega arith)
-    (set_put m (at + k) end (omega arith)
-    ∙ ap (λ (p : ℕ). put m p (end ∷ [])) behind
-    ∙ ap (λ (l : List ℕ). put l (at + length (decimal n)) (end ∷ [])) is
-    ∙ put_next out (decimal n) (end ∷ []) at (omega arith))
+    set_put m (at + k) end (omega arith)
+    ∙ ap₂ (λ (l : List ℕ) (i : ℕ). put l (at + i) (end ∷ [])) is digits
+    ∙ put_next out (decimal n) (end ∷ []) at (omega arith)
+    ∙ sym (placed_put out at (field n end) (omega arith))
 
 -- all of it is bytes
 decimal_listed : (n : ℕ) → Listed (decimal n)
