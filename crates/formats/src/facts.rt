@@ -11,7 +11,7 @@ pub struct ContentId(pub u64);
 #[derive(Clone, Copy, Debug, PartialEq, Eq)]
 pub struct EntryNumber(pub u64);
 
-#[derive(Clone, Copy)]
+#[derive(Clone, Copy, Default)]
 pub struct Facts {
     pub cci: u64,
     pub trigger: u64,

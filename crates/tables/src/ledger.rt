@@ -1,9 +1,9 @@
 // The rows of a ledger, by their content ID.
 ghost use Rattle.std.specs.Prelude.{◌≡◌};
 ghost use Rattle.formats.specs.Row.{state_answer};
-ghost use Rattle.calls.specs.Buffers.{state_in};
+ghost use Rattle.calls.specs.Buffers.{state_in, here_facts};
 
-use formats::facts::ContentId;
+use formats::facts::{ContentId, Facts};
 use formats::row::RowState;
 use formats::{head, row, table};
 
@@ -17,4 +17,14 @@ pub fn state(ledger: &[u8], content: ContentId) -> RowState
         return RowState::NoState;
     }
     row::state(table::slot::<24>(ledger, id))
+}
+
+// The facts of a row that is here; zeros of any other.
+pub fn here_facts(ledger: &[u8], content: ContentId) -> Facts
+    ensures { result ≡ here_facts (state_in ledger.now content.0) }
+{
+    match state(ledger, content) {
+        RowState::Here(facts) => facts,
+        _ => Facts::default(),
+    }
 }
