@@ -2,11 +2,15 @@
 -- Assumes nothing.
 use Prim.Native.Nat.{ℕ}
 use mathlib.Core.Path.{◌≡◌, refl, sym, ap, ◌∙◌}
-use mathlib.Core.Logic.{◌≢◌}
 use mathlib.Core.List.{List}
 use mathlib.Core.Bool.{Bool, true, false, cond, true≢false}
 use mathlib.Core.Option.{some, none}
 use borrow.Author.Tests.{ne_eqb}
+use Rattle.std.specs.Prelude.{Result}
+use Rattle.std.specs.Result.{IsErrAnd}
+use Rattle.formats.specs.Refusal.{number_of, answer_number}
+use Rattle.formats.specs.declared.refusal.Refusal.{Refusal}
+use Rattle.formats.proofs.refusal.Laws.{some_number, handed_on}
 use Rattle.formats.specs.declared.head.Pair.{Pair}
 use Rattle.requests.specs.declared.request.Request.{Request}
 use Rattle.requests.specs.declared.request.Request.TheVariants.{Register, Record, CheckOut, CheckIn, MoveOut, MoveIn, Delete}
@@ -69,21 +73,28 @@ places pair (Delete j f) b n =
 
 -- A CALL, refused or done
 
-module _ (pair : Pair) (k : Request) (b : Buffers) {w : ℕ} (e : w ≡ refusal pair k b) where
-  -- refused, nothing has changed
-  pub refused : w ≢ 0 → Answers pair k b w b
+-- by what the refusals said of the buffers read, which are the b that were lent
+module _ (pair : Pair) (k : Request) {read b : Buffers} (same : read ≡ b) where
+  -- refused with v, which a `?` hands on, nothing has changed
+  pub refused : (r : Result (Unit {0}) Refusal) (v : Refusal) → IsErrAnd r (λ y. y ≡ v) → number_of v ≡ refusal pair k read → Answers pair k b (answer_number r) b
   unfolding perform
-  refused other = simp (ne_eqb (refusal pair k b) 0 (λ z. other (e ∙ z)), e)
+  refused r v h e =
+      let here : number_of v ≡ refusal pair k b = e ∙ ap (refusal pair k) same in
+      simp (handed_on r v h, ne_eqb (refusal pair k b) 0 (λ z. some_number v (here ∙ z)), here)
 
-  -- accepted, its places lie in its tables
-  pub inside : w ≡ 0 → Inside k b
-  unfolding perform
-  inside zero = places pair k b (needs_met pair k b (sym e ∙ zero))
+  module _ (e : 0 ≡ refusal pair k read) where
+    zero : refusal pair k b ≡ 0
+    zero = sym (e ∙ ap (refusal pair k) same)
 
-  -- done, its effect is there
-  pub done : {after : Buffers} → w ≡ 0 → after ≡ effect k b → Answers pair k b 0 after
-  unfolding perform
-  done {after} zero same = simp (sym e ∙ zero, same)
+    -- accepted, its places lie in its tables
+    pub inside : Inside k b
+    unfolding perform
+    inside = places pair k b (needs_met pair k b zero)
+
+    -- done, its effect is there
+    pub done : {after : Buffers} → after ≡ effect k b → Answers pair k b 0 after
+    unfolding perform
+    done {after} is = simp (zero, is)
 
 -- a request that is one of the calls is answered as that call
 pub for_request : (pair : Pair) (b : Buffers) {k k' : Request} {r : ℕ} {after : Buffers} → k ≡ k' → Answers pair k' b r after → Answers pair k b r after

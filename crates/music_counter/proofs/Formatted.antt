@@ -13,6 +13,7 @@ use Rattle.calls.proofs.Refusals.{holds, end}
 use Rattle.tables.specs.Format.{ledger_formatting, formatted_ledger, card_formatting, formatted_titles, formatted_rules}
 use Rattle.tables.proofs.History.{ledger_fresh, titles_fresh, rules_fresh}
 use Rattle.music_counter.specs.declared.serve.Served.{Served}
+use Rattle.music_counter.specs.declared.serve.Note.{Note}
 use Rattle.music_counter.specs.Serve.{Serves}
 
 formats_ledger : (l : List ℕ) → length l ≡ 1560 → ledger_formatting l 64 ≡ 0
@@ -25,10 +26,10 @@ formats_card t r e f = sym (holds 8 (eqb (length t) 16000) _ (eq-eqb (length t) 
 
 -- what formatting left, whatever stood there, is fresh
 pub served_fresh : (l t r : List ℕ) → length l ≡ 1560 → length t ≡ 16000 → length r ≡ 32000
-    → {s : List ℕ} {ledger titles rules : List ℕ} {served : Served} {after : Buffers} {kinds kinds' answers answers' : List ℕ}
+    → {s : List ℕ} {ledger titles rules : List ℕ} {served : Served} {after : Buffers} {notes notes' : List Note}
     → ledger ≡ formatted_ledger l 64 0 → titles ≡ formatted_titles Audio t r → rules ≡ formatted_rules Audio t r 0
-    → Serves Audio s (buffers_of ledger titles rules) served after kinds kinds' answers answers'
-    → Serves Audio s (fresh Audio 64 0 0) served after kinds kinds' answers answers'
+    → Serves Audio s (buffers_of ledger titles rules) served after notes notes'
+    → Serves Audio s (fresh Audio 64 0 0) served after notes notes'
 served_fresh l t r n m k ledger titles rules serves =
     rw
     (ledger ∙ ledger_fresh l 64 0 (formats_ledger l n), titles ∙ titles_fresh Audio t r (formats_card t r m k), rules ∙ rules_fresh Audio t r (formats_card t r m k) 0)

@@ -7,17 +7,20 @@ use native.Mathlib.Omega.{arith}
 use native.Mathlib.Numerals.{add-one}
 use lib.ListN.{length, drop, set, length-drop, length-append, length-set, length-map}
 use Rattle.formats.specs.declared.head.Pair.{Pair}
-use Rattle.requests.specs.Request.{read_request, request_answer, kind_of}
+use Rattle.std.specs.Prelude.{Result, Ok, Err}
+use Rattle.formats.specs.Refusal.{number_of, answer_number, answer_of}
+use Rattle.formats.specs.declared.refusal.Refusal.{Refusal}
+use Rattle.requests.specs.Request.{RequestRead, Read, Refused as Faulty, read_request, request_values, request_answer, reading_of, kind_of}
 use Rattle.requests.specs.declared.request.Request.{Request}
-use Rattle.requests.specs.declared.request.RequestRead.{RequestRead}
-use Rattle.requests.specs.declared.request.RequestRead.TheVariants.{Read, Refused as Faulty}
-use Rattle.requests.proofs.request.Laws.{request_form, same_request}
+use Rattle.requests.specs.declared.request.RequestRead.{RequestRead as ReadRequest}
+use Rattle.requests.proofs.request.Laws.{request_form, same_reading}
 use Rattle.calls.specs.Buffers.{Buffers}
 use Rattle.calls.specs.Perform.{Performed, perform}
-use Rattle.calls.specs.History.{Answered, Log, Run, run, in_order, answers_in}
+use Rattle.calls.specs.History.{Answered, Log, Run, run, in_order}
 use Rattle.calls.proofs.InBounds.{in_bounds}
 use Rattle.music_counter.specs.Answer.{Answers}
-use Rattle.music_counter.specs.Serve.{Stream, further, read_stream, stream_of, served_run, kinds_in, overwritten, Serves}
+use Rattle.music_counter.specs.declared.serve.Note.{Note}
+use Rattle.music_counter.specs.Serve.{Stream, further, read_stream, stream_of, served_run, note_of, notes_in, overwritten, Serves}
 
 -- THE STREAM, request by request
 
@@ -64,64 +67,63 @@ stream_next (b ∷ s) {q} {k} e =
     ∙ ap (λ (t : Stream). record { requests = q ∷ t.requests; stop = t.stop })
     (enough (length s) (length (drop k (b ∷ s))) (drop k (b ∷ s)) (omega arith) (omega arith))
 
--- THE NUMBERS that are noted of each request
+-- THE NOTES of each request
 
-none_over : (places : List ℕ) → overwritten places [] ≡ places
+none_over : (places : List Note) → overwritten places [] ≡ places
 unfolding overwritten
 none_over [] = refl
 none_over (x ∷ places) = refl
 
 -- one more is set behind the others, where there is a place for it
-one_more_lem : (places numbers : List ℕ) (n : ℕ) → set (overwritten places numbers) (length numbers) n ≡ overwritten places (numbers ++ (n ∷ []))
+one_more_lem : (places notes : List Note) (n : Note) → set (overwritten places notes) (length notes) n ≡ overwritten places (notes ++ (n ∷ []))
 unfolding overwritten
-one_more_lem [] numbers n = refl
-one_more_lem (x ∷ places) [] n = ap (λ (l : List ℕ). n ∷ l) (sym (none_over places))
-one_more_lem (x ∷ places) (m ∷ numbers) n = ap (λ (l : List ℕ). m ∷ l) (one_more_lem places numbers n)
+one_more_lem [] notes n = refl
+one_more_lem (x ∷ places) [] n = ap (λ (l : List Note). n ∷ l) (sym (none_over places))
+one_more_lem (x ∷ places) (m ∷ notes) n = ap (λ (l : List Note). m ∷ l) (one_more_lem places notes n)
 
--- of each call of a log in its order, the number f of it: as many as there are calls stand in the places, the first in front
-pub record Noted (f : Answered → ℕ) (places : List ℕ) (log : Log) (numbers : List ℕ) : Type 0 where
-  pub are : numbers ≡ overwritten places (map f (in_order log))
-  pub same_length : length numbers ≡ length places
+-- of each call of a log in its order: as many as there are calls stand in the places, the first in front
+pub record Noted (places : List Note) (log : Log) (notes : List Note) : Type 0 where
+  pub are : notes ≡ overwritten places (map note_of (in_order log))
+  pub same_length : length notes ≡ length places
 
 length_in_order : (log : Log) → length (in_order log) ≡ length log
 unfolding in_order
 length_in_order [] = refl
 length_in_order (a ∷ log) = length-append (in_order log) (a ∷ []) ∙ ap (λ (n : ℕ). n + 1) (length_in_order log) ∙ add-one (length log)
 
-module _ (f : Answered → ℕ) {places : List ℕ} {log : Log} {numbers : List ℕ} (noted : Noted f places log numbers) where
-  note_next : (a : Answered) {count : ℕ} {after : List ℕ} → count ≡ length log → after ≡ set numbers count (f a) → Noted f places (a ∷ log) after
+module _ {places : List Note} {log : Log} {notes : List Note} (noted : Noted places log notes) where
+  note_next : (a : Answered) {count : ℕ} {after : List Note} → count ≡ length log → after ≡ set notes count (note_of a) → Noted places (a ∷ log) after
   unfolding in_order
   note_next a {count} e wrote =
-      let old = map f (in_order log) in
-      let long : count ≡ length old = e ∙ sym (length-map (in_order log) f ∙ length_in_order log) in
+      let old = map note_of (in_order log) in
+      let long : count ≡ length old = e ∙ sym (length-map (in_order log) note_of ∙ length_in_order log) in
       rw wrote record {
         are =
-            ap₂ (λ (l : List ℕ) (n : ℕ). set l n (f a)) noted.are long
-            ∙ one_more_lem places old (f a)
-            ∙ ap (overwritten places) (sym (map-append f (in_order log) (a ∷ [])));
-        same_length = length-set numbers count (f a) ∙ noted.same_length;
+            ap₂ (λ (l : List Note) (n : ℕ). set l n (note_of a)) noted.are long
+            ∙ one_more_lem places old (note_of a)
+            ∙ ap (overwritten places) (sym (map-append note_of (in_order log) (a ∷ [])));
+        same_length = length-set notes count (note_of a) ∙ noted.same_length;
       }
 
 -- SERVING IT
 
 -- requests of s are carried out from `before`: the bytes `rest` are unread, the buffers are b, and `count` requests are noted. What
 -- serving the rest comes to from here is what serving all comes to.
-pub record Serving (pair : Pair) (s : List ℕ) (before : Buffers) (kinds answers : List ℕ) (rest : List ℕ) (b : Buffers) (kinds' answers' : List ℕ) (count : ℕ) : Type 0 where
+pub record Serving (pair : Pair) (s : List ℕ) (before : Buffers) (notes : List Note) (rest : List ℕ) (b : Buffers) (notes' : List Note) (count : ℕ) : Type 0 where
   pub log : Log
   pub stops : (stream_of rest).stop ≡ (stream_of s).stop
   pub comes_to : run pair (stream_of rest).requests (record { log = log; buffers = b }) ≡ served_run pair s before
   pub counts : count + length (stream_of rest).requests ≡ length (stream_of s).requests
   pub count_is : count ≡ length log
   pub at_most : count + length rest ≤ length s
-  pub kinds_noted : Noted (λ a. kind_of a.call) kinds log kinds'
-  pub answers_noted : Noted (λ a. a.answer) answers log answers'
+  pub noted : Noted notes log notes'
   pub ledger_length : length b.ledger ≡ length before.ledger
   pub titles_length : length b.titles ≡ length before.titles
   pub rules_length : length b.rules ≡ length before.rules
 
-pub start : (pair : Pair) (s : List ℕ) (b : Buffers) (kinds answers : List ℕ) → Serving pair s b kinds answers s b kinds answers 0
+pub start : (pair : Pair) (s : List ℕ) (b : Buffers) (notes : List Note) → Serving pair s b notes s b notes 0
 unfolding in_order
-start pair s b kinds answers =
+start pair s b notes =
     record {
       log = [];
       stops = refl;
@@ -129,19 +131,19 @@ start pair s b kinds answers =
       counts = omega arith;
       count_is = refl;
       at_most = omega arith;
-      kinds_noted = record { are = sym (none_over kinds); same_length = refl };
-      answers_noted = record { are = sym (none_over answers); same_length = refl };
+      noted = record { are = sym (none_over notes); same_length = refl };
       ledger_length = refl;
       titles_length = refl;
       rules_length = refl;
     }
 
-module _ {pair : Pair} {s : List ℕ} {before : Buffers} {kinds answers rest : List ℕ} {b : Buffers} {kinds' answers' : List ℕ} {count : ℕ}
-    (r : Serving pair s before kinds answers rest b kinds' answers' count) where
+module _ {pair : Pair} {s : List ℕ} {before : Buffers} {notes : List Note} {rest : List ℕ} {b : Buffers} {notes' : List Note} {count : ℕ}
+    (r : Serving pair s before notes rest b notes' count) where
   -- the stream of the rest has no request
-  ended : {w : ℕ} → stream_of rest ≡ record { requests = []; stop = w } → Serves pair s before (record { stop = w; count = count }) b kinds kinds' answers answers'
+  ended : (stop : Result (Unit {0}) Refusal) → stream_of rest ≡ record { requests = []; stop = answer_number stop }
+      → Serves pair s before (record { stop = stop; count = count }) b notes notes'
   unfolding run
-  ended e =
+  ended stop e =
       let here : Run = record { log = r.log; buffers = b } in
       let all : here ≡ served_run pair s before = ap (λ (t : Stream). run pair t.requests here) (sym e) ∙ r.comes_to in
       let none : length (stream_of rest).requests ≡ 0 = ap (λ (t : Stream). length t.requests) e in
@@ -149,42 +151,45 @@ module _ {pair : Pair} {s : List ℕ} {before : Buffers} {kinds answers rest : L
         stop = ap (λ (t : Stream). t.stop) (sym e) ∙ r.stops;
         count = omega (arith, r.counts, none);
         buffers = ap (λ (w : Run). w.buffers) all;
-        kinds_are = r.kinds_noted.are ∙ ap (λ (w : Run). overwritten kinds (kinds_in w)) all;
-        answers_are = r.answers_noted.are ∙ ap (λ (w : Run). overwritten answers (answers_in w)) all;
+        notes_are = r.noted.are ∙ ap (λ (w : Run). overwritten notes (notes_in w)) all;
       }
 
   -- nothing is left
-  pub finished : length rest ≡ 0 → Serves pair s before (record { stop = 0; count = count }) b kinds kinds' answers answers'
-  finished h = ended (stream_ends rest (omega arith))
+  pub finished : length rest ≡ 0 → Serves pair s before (record { stop = Ok tt; count = count }) b notes notes'
+  finished h = ended (Ok tt) (stream_ends rest (omega arith))
 
   -- x was read at the front of the rest
-  module _ {x : RequestRead} (read : request_answer x ≡ request_answer (read_request rest)) where
-    found : {y : RequestRead} → x ≡ y → read_request rest ≡ y
-    found e = sym (same_request read) ∙ e
+  module _ (x : Result ReadRequest Refusal) (read : answer_of request_values x ≡ request_answer (read_request rest)) where
+    found : {y : RequestRead} → reading_of x ≡ y → read_request rest ≡ y
+    found e = sym (same_reading x read) ∙ e
 
     -- it is a refusal
-    pub faulted : (length rest ≡ 0 → ⊥) → {w n : ℕ} → x ≡ Faulty w → n ≡ (request_answer x).number
-        → Serves pair s before (record { stop = n; count = count }) b kinds kinds' answers answers'
-    faulted h e d = rw (d ∙ ap (λ (y : RequestRead). (request_answer y).number) e) (ended (stream_fault rest (omega arith) (found e)))
+    pub faulted : (length rest ≡ 0 → ⊥) → {w : Refusal} → x ≡ Err w → (stop : Result (Unit {0}) Refusal) → answer_number stop ≡ number_of w
+        → Serves pair s before (record { stop = stop; count = count }) b notes notes'
+    faulted h e stop d =
+        ended stop (stream_fault rest (omega arith) (found (ap reading_of e)) ∙ ap (λ (n : ℕ). record { requests = []; stop = n }) (sym d))
 
     -- it is a request
-    module _ {q : Request} {k : ℕ} (e : x ≡ Read q k) where
+    module _ {q : ReadRequest} (e : x ≡ Ok q) where
+      as_read : read_request rest ≡ Read q.request q.len
+      as_read = found (ap reading_of e)
+
       -- there is a number for one more
       pub room : count + 1 ≤ length s
-      room = omega (arith, shorter rest (found e), r.at_most)
+      room = omega (arith, shorter rest as_read, r.at_most)
 
       -- it was carried out, and the bytes after it are unread
-      module _ {unread : List ℕ} (after-it : unread ≡ drop k rest) where
+      module _ {unread : List ℕ} (after-it : unread ≡ drop q.len rest) where
         pub fewer : length unread < length rest
-        fewer = rw after-it (shorter rest (found e))
+        fewer = rw after-it (shorter rest as_read)
 
-        pub served : {kind answer : ℕ} {after : Buffers} {kinds'' answers'' : List ℕ} → Answers pair q b answer after → kind ≡ kind_of q → kinds'' ≡ set kinds' count kind
-            → answers'' ≡ set answers' count answer → Serving pair s before kinds answers unread after kinds'' answers'' (count + 1)
+        pub served : {kind answer : ℕ} {after : Buffers} {notes'' : List Note} → Answers pair q.request b answer after → kind ≡ kind_of q.request
+            → notes'' ≡ set notes' count (record { kind = kind; answer = answer }) → Serving pair s before notes unread after notes'' (count + 1)
         unfolding run
-        served made kind_is kinds-set answers-set =
-            let next = stream_next rest (found e) in
-            let kept = in_bounds pair q b in
-            let line : Answered = record { call = q; answer = (perform pair q b).answer } in
+        served {kind} {answer} made kind_is wrote =
+            let next = stream_next rest as_read in
+            let kept = in_bounds pair q.request b in
+            let line : Answered = record { call = q.request; answer = (perform pair q.request b).answer } in
             let answer-is = ap (λ (p : Performed). p.answer) made in
             rw (after-it, ap (λ (p : Performed). p.buffers) made)
             (record {
@@ -193,9 +198,9 @@ module _ {pair : Pair} {s : List ℕ} {before : Buffers} {kinds answers rest : L
               comes_to = ap (λ (t : Stream). run pair t.requests (record { log = r.log; buffers = b })) (sym next) ∙ r.comes_to;
               counts = omega (arith, r.counts, ap (λ (t : Stream). length t.requests) next);
               count_is = omega (arith, r.count_is);
-              at_most = omega (arith, shorter rest (found e), r.at_most);
-              kinds_noted = note_next (λ a. kind_of a.call) r.kinds_noted line r.count_is (kinds-set ∙ ap (set kinds' count) kind_is);
-              answers_noted = note_next (λ a. a.answer) r.answers_noted line r.count_is (answers-set ∙ ap (set answers' count) answer-is);
+              at_most = omega (arith, shorter rest as_read, r.at_most);
+              noted = note_next r.noted line r.count_is
+                  (wrote ∙ ap₂ (λ (k a : ℕ). set notes' count (record { kind = k; answer = a })) kind_is answer-is);
               ledger_length = kept.ledger_length ∙ r.ledger_length;
               titles_length = kept.titles_length ∙ r.titles_length;
               rules_length = kept.rules_length ∙ r.rules_length;

@@ -2,13 +2,13 @@
 use Rattle.std.specs.Prelude.{ℕ, zero, suc, ◌≡◌, List, [], ◌∷◌, map, length, drop}
 use Rattle.formats.specs.declared.head.Pair.{Pair}
 use Rattle.formats.specs.declared.head.Pair.TheVariants.{Audio}
-use Rattle.requests.specs.Request.{read_request, kind_of}
+use Rattle.formats.specs.Refusal.{answer_number}
+use Rattle.requests.specs.Request.{RequestRead, Read, Refused, read_request, kind_of}
 use Rattle.requests.specs.declared.request.Request.{Request}
-use Rattle.requests.specs.declared.request.RequestRead.{RequestRead}
-use Rattle.requests.specs.declared.request.RequestRead.TheVariants.{Read, Refused}
 use Rattle.calls.specs.Buffers.{Buffers, fresh}
-use Rattle.calls.specs.History.{Run, from, run, in_order, answers_in}
+use Rattle.calls.specs.History.{Answered, Run, from, run, in_order}
 use Rattle.music_counter.specs.declared.serve.Served.{Served}
+use Rattle.music_counter.specs.declared.serve.Note.{Note}
 
 -- the requests that are read one after another, and "0 where no byte is left, or the number that stopped reading"
 pub record Stream : Type 0 where
@@ -41,17 +41,23 @@ program_run s = served_run Audio s (fresh Audio 64 0 0)
 abbrev pub kinds_in : Run → List ℕ
 kinds_in w = map (λ a. kind_of a.call) (in_order w.log)
 
--- places for numbers, with as many of these numbers as there are places for; places after them keep what they had
-unfoldable pub overwritten : List ℕ → List ℕ → List ℕ
-overwritten [] numbers = []
-overwritten (x ∷ places) [] = x ∷ places
-overwritten (x ∷ places) (n ∷ numbers) = n ∷ overwritten places numbers
+-- what is noted of each request: its kind and its answer
+abbrev pub note_of : Answered → Note
+note_of a = record { kind = kind_of a.call; answer = a.answer }
 
--- the stream s was served, as calls of one pair, from the buffers `before`: the number that stopped it and how many requests it had, the buffers, and
--- the places for kinds and answers, as they were and as they are
-pub record Serves (pair : Pair) (s : List ℕ) (before : Buffers) (r : Served) (after : Buffers) (kinds kinds' answers answers' : List ℕ) : Type 0 where
-  pub stop : r.stop ≡ (stream_of s).stop
+abbrev pub notes_in : Run → List Note
+notes_in w = map note_of (in_order w.log)
+
+-- places for notes, with as many of these as there are places for; places after them keep what they had
+unfoldable pub overwritten : List Note → List Note → List Note
+overwritten [] notes = []
+overwritten (x ∷ places) [] = x ∷ places
+overwritten (x ∷ places) (n ∷ notes) = n ∷ overwritten places notes
+
+-- the stream s was served, as calls of one pair, from the buffers `before`: what stopped it and how many requests it had, the buffers,
+-- and the places for notes, as they were and as they are
+pub record Serves (pair : Pair) (s : List ℕ) (before : Buffers) (r : Served) (after : Buffers) (notes notes' : List Note) : Type 0 where
+  pub stop : answer_number r.stop ≡ (stream_of s).stop
   pub count : r.count ≡ length (stream_of s).requests
   pub buffers : after ≡ (served_run pair s before).buffers
-  pub kinds_are : kinds' ≡ overwritten kinds (kinds_in (served_run pair s before))
-  pub answers_are : answers' ≡ overwritten answers (answers_in (served_run pair s before))
+  pub notes_are : notes' ≡ overwritten notes (notes_in (served_run pair s before))

@@ -1,5 +1,6 @@
 // 3 check-out: a loan copy of a title that is in the ledger is written to a free entry, and takes one of its permits.
 ghost use Rattle.std.specs.Prelude.{◌≡◌, List, [], ℕ};
+ghost use Rattle.formats.specs.Refusal.{answer_number};
 ghost use Rattle.requests.specs.declared.request.Request.TheVariants.{CheckOut};
 ghost use Rattle.calls.specs.Buffers.{buffers_of};
 ghost use Rattle.calls.specs.Effect.{effect};
@@ -8,19 +9,21 @@ ghost use Rattle.music_counter.specs.Answer.{Answers, Inside};
 use calls::count;
 use formats::facts::{ContentId, EntryNumber};
 use formats::head::Pair;
+use formats::refusal::Refusal;
 use tables::ledger;
+use tables::shop::Shop;
 
 fn apply(ledger: &mut [u8], titles: &mut [u8], content: ContentId, entry: EntryNumber)
     requires { Inside (CheckOut content entry) (buffers_of ledger.old titles.old []) }
     ensures { (rules : List ℕ) → buffers_of ledger.new titles.new rules
         ≡ effect (CheckOut content entry) (buffers_of ledger.old titles.old rules) }
 {
-    let facts = ledger::here_facts(ledger::state(ledger, content));
+    let facts = ledger::here_facts(ledger, content);
     crate::set_permits(ledger, content, count::one_less(facts.permits));
     crate::write_title(titles, entry, facts.cci, facts.title_key, content);
 }
 
-// Answers 0, or 4, 5, 7, 8, 9, 10, 11 or 12 with nothing changed.
+// Done, or refused with 4, 5, 7, 8, 9, 10, 11 or 12 and nothing changed.
 pub fn check_out(
     pair: Pair,
     ledger: &mut [u8],
@@ -28,15 +31,13 @@ pub fn check_out(
     rules: &[u8],
     content: ContentId,
     entry: EntryNumber,
-) -> u64
+) -> Result<(), Refusal>
     ensures { Answers pair (CheckOut content entry)
-        (buffers_of ledger.old titles.old rules.now) result
+        (buffers_of ledger.old titles.old rules.now) (answer_number result)
         (buffers_of ledger.new titles.new rules.now) }
 {
-    let w = refusals::check_out::refusal(pair, ledger, titles, rules, content, entry);
-    if w != 0 {
-        return w;
-    }
+    let shop = Shop::new(ledger, titles, rules);
+    refusals::check_out::refusal(pair, shop, content, entry)?;
     apply(ledger, titles, content, entry);
-    0
+    Ok(())
 }

@@ -1,5 +1,6 @@
 // 5 move out: a title goes from its full entry back to the ledger, with one move right less; the entry is wiped.
 ghost use Rattle.std.specs.Prelude.{◌≡◌, ℕ};
+ghost use Rattle.formats.specs.Refusal.{answer_number};
 ghost use Rattle.requests.specs.declared.request.Request.TheVariants.{MoveOut};
 ghost use Rattle.calls.specs.Buffers.{buffers_of};
 ghost use Rattle.calls.specs.Effect.{effect};
@@ -8,7 +9,9 @@ ghost use Rattle.music_counter.specs.Answer.{Answers, Inside};
 use calls::count;
 use formats::facts::{EntryNumber, Fillers};
 use formats::head::Pair;
-use tables::card;
+use formats::refusal::Refusal;
+use tables::card::Card;
+use tables::shop::Shop;
 
 fn apply(
     ledger: &mut [u8],
@@ -21,14 +24,15 @@ fn apply(
     ensures { (hash : ℕ) → buffers_of ledger.new titles.new rules.new
         ≡ effect (MoveOut entry hash fillers) (buffers_of ledger.old titles.old rules.old) }
 {
-    let content = card::content(titles, entry);
-    let facts = card::facts(titles, rules, entry);
-    crate::set_here(ledger, content, count::after_move(facts));
+    let card = Card { titles, rules };
+    let content = card.content(entry);
+    let facts = count::after_move(card.facts(entry));
+    crate::set_here(ledger, content, facts);
     crate::wipe_title(titles, entry, fillers.f1);
     crate::wipe_rule(rules, entry, fillers);
 }
 
-// Answers 0, or 5, 7, 8, 9, 10, 11, 12, 13 or 16 with nothing changed.
+// Done, or refused with 5, 7, 8, 9, 10, 11, 12, 13 or 16 and nothing changed.
 pub fn move_out(
     pair: Pair,
     ledger: &mut [u8],
@@ -37,15 +41,13 @@ pub fn move_out(
     entry: EntryNumber,
     hash: u64,
     fillers: Fillers,
-) -> u64
+) -> Result<(), Refusal>
     ensures { Answers pair (MoveOut entry hash fillers)
-        (buffers_of ledger.old titles.old rules.old) result
+        (buffers_of ledger.old titles.old rules.old) (answer_number result)
         (buffers_of ledger.new titles.new rules.new) }
 {
-    let w = refusals::move_out::refusal(pair, ledger, titles, rules, entry, hash, fillers);
-    if w != 0 {
-        return w;
-    }
+    let shop = Shop::new(ledger, titles, rules);
+    refusals::move_out::refusal(pair, shop, entry, hash, fillers)?;
     apply(ledger, titles, rules, entry, fillers);
-    0
+    Ok(())
 }

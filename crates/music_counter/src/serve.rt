@@ -1,5 +1,6 @@
 // Serving requests from their bytes.
 ghost use Rattle.std.specs.Prelude.{◌≡◌, length, set};
+ghost use Rattle.formats.specs.Refusal.{answer_number};
 ghost use Rattle.formats.specs.declared.head.Pair.TheVariants.{Audio};
 ghost use Rattle.calls.specs.Buffers.{buffers_of, fresh};
 ghost use Rattle.music_counter.specs.Answer.{Answers};
@@ -7,8 +8,10 @@ ghost use Rattle.music_counter.specs.Serve.{Serves};
 
 use crate::{check_in, check_out, delete, move_in, move_out, record, register};
 use formats::head::Pair;
+use formats::refusal;
+use formats::refusal::Refusal;
 use requests::request;
-use requests::request::{Request, RequestRead};
+use requests::request::Request;
 use tables::format;
 
 // Carries out a request that has been read, on a card of the pair.
@@ -18,9 +21,9 @@ pub fn perform(
     titles: &mut [u8],
     rules: &mut [u8],
     request: Request,
-) -> u64
+) -> Result<(), Refusal>
     ensures { Answers pair request
-        (buffers_of ledger.old titles.old rules.old) result
+        (buffers_of ledger.old titles.old rules.old) (answer_number result)
         (buffers_of ledger.new titles.new rules.new) }
 {
     match request {
@@ -53,55 +56,62 @@ pub fn perform(
     }
 }
 
-// 0 where no byte is left, or the number that stopped reading, and how many requests were served.
+// How serving a stream ended: done where no byte is left, or what stopped reading; and how many requests were served.
 #[derive(Clone, Copy)]
 pub struct Served {
-    pub stop: u64,
+    pub stop: Result<(), Refusal>,
     pub count: usize,
 }
 
-// Writes a number to place i, where there is one.
-fn note(places: &mut [u64], i: usize, number: u64)
-    ensures { places.new ≡ set places.old i number }
+// What is noted of a request that was served: its kind, and the number that it was answered.
+#[derive(Clone, Copy, Debug, PartialEq, Eq)]
+pub struct Note {
+    pub kind: u64,
+    pub answer: u64,
+}
+
+// Writes a note to place i, where there is one.
+fn put_note(notes: &mut [Note], i: usize, note: Note)
+    ensures { notes.new ≡ set notes.old i note }
 {
-    if i < places.len() {
-        places[i] = number;
+    if i < notes.len() {
+        notes[i] = note;
     }
 }
 
-// Serves a whole stream, as calls of one pair, to its end or to the first request that cannot be read; everything before it is carried out. `kinds` and
-// `answers` get each request's, as many as they have places.
+// Serves a whole stream, as calls of one pair, to its end or to the first request that cannot be read; everything before it is
+// carried out. `notes` gets a note of each request, as many as it has places.
 pub fn all(
     pair: Pair,
     ledger: &mut [u8],
     titles: &mut [u8],
     rules: &mut [u8],
     s: &[u8],
-    kinds: &mut [u64],
-    answers: &mut [u64],
+    notes: &mut [Note],
 ) -> Served
     ensures { Serves pair s.now (buffers_of ledger.old titles.old rules.old) result
-        (buffers_of ledger.new titles.new rules.new)
-        kinds.old kinds.new answers.old answers.new }
+        (buffers_of ledger.new titles.new rules.new) notes.old notes.new }
 {
     let mut rest = s;
     let mut count: usize = 0;
-    while rest.len() != 0 {
+    while !rest.is_empty() {
         let found = request::read(rest);
-        let RequestRead::Read { request, len: _ } = found else {
+        let Ok(read) = found else {
             return Served {
-                stop: request::number(found),
+                stop: found.map(|_| ()),
                 count,
             };
         };
-        let answer = perform(pair, ledger, titles, rules, request);
-        note(kinds, count, request::kind(request));
-        note(answers, count, answer);
+        let answer = refusal::number(perform(pair, ledger, titles, rules, read.request));
+        let kind = request::kind(read.request);
+        put_note(notes, count, Note { kind, answer });
         count += 1;
-        let unread = request::remainder(rest, found);
-        rest = unread;
+        rest = request::remainder(rest, found);
     }
-    Served { stop: 0, count }
+    Served {
+        stop: Ok(()),
+        count,
+    }
 }
 
 // Formats a ledger of 64 rows and an audio card, application number 0, whatever stood in the buffers, and serves a stream on them: what
@@ -111,17 +121,15 @@ pub fn from_fresh(
     titles: &mut [u8; 16000],
     rules: &mut [u8; 32000],
     s: &[u8],
-    kinds: &mut [u64],
-    answers: &mut [u64],
+    notes: &mut [Note],
 ) -> Served
     ensures serves { Serves Audio s.now (fresh Audio 64 0 0) result
-        (buffers_of ledger.new titles.new rules.new)
-        kinds.old kinds.new answers.old answers.new }
+        (buffers_of ledger.new titles.new rules.new) notes.old notes.new }
     ensures ledger_length { 1560 ≡ length ledger.new }
     ensures titles_length { 16000 ≡ length titles.new }
     ensures rules_length { 32000 ≡ length rules.new }
 {
-    format::format_ledger(ledger, 64, 0);
-    format::format_card(Pair::Audio, titles, rules, 0);
-    all(Pair::Audio, ledger, titles, rules, s, kinds, answers)
+    let _ = format::format_ledger(ledger, 64, 0);
+    let _ = format::format_card(Pair::Audio, titles, rules, 0);
+    all(Pair::Audio, ledger, titles, rules, s, notes)
 }

@@ -1,8 +1,5 @@
 -- `music_counter::check_out::apply` meets its contract.
 -- Assumes nothing.
-use mathlib.Core.Path.{ap, ◌∙◌}
-use Rattle.formats.proofs.row.Laws.{same_state}
-use Rattle.calls.specs.Buffers.{here_facts}
 use Rattle.music_counter.proofs.Effects.{checked_out_lem}
 use Rattle.music_counter.proofs.check_out.apply.Goals as goal
 
@@ -10,5 +7,5 @@ pub returns : goal.returns
 returns c rules =
     let a = c.args in
     checked_out_lem a.ledger.now a.titles.now rules a.content a.entry
-    (c.here_facts-facts.ensures ∙ ap here_facts (same_state c.state.ensures))
+    c.here_facts-facts.ensures
     c.one_less.ensures c.set_permits.ensures c.write_title.ensures

@@ -3,13 +3,13 @@
 use Rattle.music_counter.proofs.Answers.{refused, inside, done}
 use Rattle.music_counter.proofs.check_out.check_out.Goals as goal
 
-pub returns-then-w-ne0 : goal.returns-then-w-ne0
-returns-then-w-ne0 c = refused _ _ _ c.refusal-w.ensures c.if-w-ne0.true
+pub returns-in_err-refusal : goal.returns-in_err-refusal
+returns-in_err-refusal c = refused _ _ c.new-shop.ensures _ _ c.from_residual.ensures.1 c.in_err-refusal.ensures
 
 pub apply-requires : goal.apply-requires
 apply-requires c =
-    let i = inside _ _ _ c.refusal-w.ensures c.if-w-ne0.false in
+    let i = inside _ _ c.new-shop.ensures c.in_ok-refusal.ensures in
     record { row = i.row; title = i.title; rule = tt }
 
 pub returns : goal.returns
-returns c = done _ _ _ c.refusal-w.ensures c.if-w-ne0.false (c.apply.ensures _)
+returns c = done _ _ c.new-shop.ensures c.in_ok-refusal.ensures (c.apply.ensures _)

@@ -3,12 +3,11 @@
 use Rattle.music_counter.proofs.Answers.{refused, inside, done}
 use Rattle.music_counter.proofs.move_in.move_in.Goals as goal
 
-pub returns-then-w-ne0 : goal.returns-then-w-ne0
-returns-then-w-ne0 c = refused _ _ _ (c.refusal-w.ensures _) c.if-w-ne0.true
+pub returns-in_err-refusal : goal.returns-in_err-refusal
+returns-in_err-refusal c = refused _ _ c.new-shop.ensures _ _ c.from_residual.ensures.1 (c.in_err-refusal.ensures _)
 
 pub apply-requires : goal.apply-requires
-apply-requires c =
-    inside _ _ _ (c.refusal-w.ensures _) c.if-w-ne0.false
+apply-requires c = inside _ _ c.new-shop.ensures (c.in_ok-refusal.ensures _)
 
 pub returns : goal.returns
-returns c = done _ _ _ (c.refusal-w.ensures _) c.if-w-ne0.false c.apply.ensures
+returns c = done _ _ c.new-shop.ensures (c.in_ok-refusal.ensures _) c.apply.ensures

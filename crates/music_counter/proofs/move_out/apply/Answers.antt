@@ -9,5 +9,5 @@ pub returns : goal.returns
 returns c hash =
     let a = c.args in
     moved_out a.ledger.now a.titles.now a.rules.now a.entry hash a.fillers c.content-content.result.0 c.content-content.ensures
-    (c.after_move.ensures ∙ ap after_move c.facts-facts.ensures)
+    (c.after_move-facts.ensures ∙ ap after_move c.facts.ensures)
     c.set_here.ensures c.wipe_title.ensures c.wipe_rule.ensures

@@ -3,11 +3,11 @@
 use Rattle.music_counter.proofs.Answers.{refused, inside, done}
 use Rattle.music_counter.proofs.record.record.Goals as goal
 
-pub returns-then-w-ne0 : goal.returns-then-w-ne0
-returns-then-w-ne0 c = refused _ _ _ (c.refusal-w.ensures _) c.if-w-ne0.true
+pub returns-in_err-refusal : goal.returns-in_err-refusal
+returns-in_err-refusal c = refused _ _ c.new-shop.ensures _ _ c.from_residual.ensures.1 (c.in_err-refusal.ensures _)
 
 pub put_on_card-requires : goal.put_on_card-requires
-put_on_card-requires c = inside _ _ _ (c.refusal-w.ensures _) c.if-w-ne0.false
+put_on_card-requires c = inside _ _ c.new-shop.ensures (c.in_ok-refusal.ensures _)
 
 pub returns : goal.returns
-returns c = done _ _ _ (c.refusal-w.ensures _) c.if-w-ne0.false c.put_on_card.ensures
+returns c = done _ _ c.new-shop.ensures (c.in_ok-refusal.ensures _) c.put_on_card.ensures
