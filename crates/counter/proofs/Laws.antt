@@ -1,6 +1,6 @@
 -- The lines that are printed: one after another, how many there are, how long they are, and that they stand at the front of the text.
 -- Assumes nothing.
-use Prim.Native.Nat.{ℕ, zero, suc, ◌+◌, ◌*◌, ◌^◌, ◌≤◌, ◌<◌}
+use Prim.Native.Nat.{ℕ, zero, suc, ◌+◌, ◌*◌, ◌≤◌, ◌<◌}
 use mathlib.Core.Path.{◌≡◌, refl, sym, ap, ap₂, subst, ◌∙◌}
 use mathlib.Core.List.{List, [], ◌∷◌, ◌++◌, map, append_assoc}
 use native.Mathlib.Omega.{arith}
@@ -8,26 +8,29 @@ use native.Mathlib.Numerals.{add-one}
 use native.Mathlib.Nat.{add-zero, zero-add, suc-add, add-suc}
 use lib.ListN.{length, take, drop, get_or, replicate, length-append, length-take, length-replicate, drop_of_length-le}
 use lib.Seq.{drop-cons}
+use Rattle.std.specs.Prelude.{Result, Ok, Err}
 use Rattle.io.specs.Counts.{IsPrefixLen}
 use Rattle.formats.specs.Part.{put}
 use Rattle.formats.specs.declared.head.Pair.{Pair}
 use Rattle.formats.specs.declared.head.Pair.TheVariants.{Audio}
+use Rattle.formats.specs.Refusal.{number_of, answer_number}
+use Rattle.formats.specs.declared.refusal.Refusal.{Refusal}
+use Rattle.formats.specs.declared.refusal.Refusal.TheVariants.{TooShort, Number, Kind, ContentId, EntryNumber, Facts, Ledger, Titles, Rules, KindOfEntry, StateOfRow, NothingLeft, Hash, CopyOut, PermitsFull, Filler}
 use Rattle.formats.proofs.Part.{put_next, put_length}
 use Rattle.formats.proofs.Stores.{Storing, start, stored}
-use Rattle.requests.specs.Request.{read_request, kind_of}
+use Rattle.requests.specs.Request.{RequestRead, Read, Refused, read_request, kind_of}
 use Rattle.requests.specs.declared.request.Request.{Request}
 use Rattle.requests.specs.declared.request.Request.TheVariants.{Register, Record, CheckOut, CheckIn, MoveOut, MoveIn, Delete}
-use Rattle.requests.specs.declared.request.RequestRead.{RequestRead}
-use Rattle.requests.specs.declared.request.RequestRead.TheVariants.{Read, Refused}
 use Rattle.calls.specs.Buffers.{Buffers, fresh}
 use Rattle.calls.specs.History.{Answered, Log, Run, from, run, in_order, answers_in}
 use Rattle.calls.proofs.Refusals.{answer_most}
 use Rattle.text.specs.Text.{decimal, field, line, placed, place_after}
 use Rattle.text.proofs.Placed.{next, at_front}
-use Rattle.text.proofs.decimal.Laws.{field_length, length_last, length_most}
+use Rattle.text.proofs.Decimal.{field_length, length_last, length_most}
 use Rattle.music_counter.specs.declared.serve.Served.{Served}
-use Rattle.music_counter.specs.Serve.{Stream, further, read_stream, stream_of, program_run, kinds_in, overwritten, Serves}
-use Rattle.counter.specs.Printed.{answer_lines, end_word, end_line, counter_printed}
+use Rattle.music_counter.specs.declared.serve.Note.{Note}
+use Rattle.music_counter.specs.Serve.{Stream, further, read_stream, stream_of, program_run, kinds_in, note_of, notes_in, overwritten, Serves}
+use Rattle.counter.specs.Printed.{answer_lines, lines_noted, end_word, end_line, counter_printed}
 
 -- A LINE: two numbers, a space and a line end
 line_length : (k a : ℕ) → length (line (k ∷ a ∷ [])) ≡ length (decimal k) + length (decimal a) + 2
@@ -35,58 +38,48 @@ unfolding line
 line_length k a = length-append (field k 32) (field a 10) ∙ omega (arith, field_length k 32, field_length a 10)
 
 -- with those after it
-lines_next : (k a : ℕ) (kinds answers : List ℕ) → answer_lines (k ∷ kinds) (a ∷ answers) ≡ field k 32 ++ (field a 10 ++ answer_lines kinds answers)
+lines_next : (n : Note) (notes : List Note) → lines_noted (n ∷ notes) ≡ field n.kind 32 ++ (field n.answer 10 ++ lines_noted notes)
 unfolding answer_lines line
-lines_next k a kinds answers = append_assoc (field k 32) (field a 10) (answer_lines kinds answers)
+lines_next n notes = append_assoc (field n.kind 32) (field n.answer 10) (lines_noted notes)
 
 -- without requests there is none
-no_lines : (answers : List ℕ) → answer_lines [] answers ≡ []
+no_lines : lines_noted [] ≡ []
 unfolding answer_lines
-no_lines answers = refl
+no_lines = refl
 
 -- THE LOOP
 
--- number i and those after it
-next_number : (numbers : List ℕ) (i : ℕ) → i < length numbers → drop i numbers ≡ get_or numbers i 0 ∷ drop (i + 1) numbers
-next_number numbers i h = drop-cons numbers i 0 h ∙ ap (λ (k : ℕ). get_or numbers i 0 ∷ drop k numbers) (sym (add-one i))
-
 -- the line of request i and those after it
-lines_from : (kinds answers : List ℕ) (i : ℕ) → i < length kinds → i < length answers
-    → answer_lines (drop i kinds) (drop i answers) ≡ field (get_or kinds i 0) 32 ++ (field (get_or answers i 0) 10 ++ answer_lines (drop (i + 1) kinds) (drop (i + 1) answers))
-lines_from kinds answers i h g =
-    ap₂ answer_lines (next_number kinds i h) (next_number answers i g)
-    ∙ lines_next (get_or kinds i 0) (get_or answers i 0) (drop (i + 1) kinds) (drop (i + 1) answers)
+lines_from : (notes : List Note) (i : ℕ) (e : Note) → i < length notes
+    → lines_noted (drop i notes) ≡ field (get_or notes i e).kind 32 ++ (field (get_or notes i e).answer 10 ++ lines_noted (drop (i + 1) notes))
+lines_from notes i e h =
+    ap lines_noted (drop-cons notes i e h ∙ ap (λ (k : ℕ). get_or notes i e ∷ drop k notes) (sym (add-one i)))
+    ∙ lines_next (get_or notes i e) (drop (i + 1) notes)
 
--- the lines of the requests before request i stand at the front of the text
-pub record Writing (kinds answers text₀ text : List ℕ) (at i : ℕ) : Type 0 where
-  pub same : length kinds ≡ length answers
-  pub room : 0 + length (answer_lines kinds answers) ≤ length text₀
-  pub storing : Storing (answer_lines kinds answers) text₀ 0 text at (answer_lines (drop i kinds) (drop i answers))
+-- the lines of the requests before request i stand in the text, from the place on at which it was
+pub record Writing (notes : List Note) (text₀ : List ℕ) (at₀ : ℕ) (text : List ℕ) (at i : ℕ) : Type 0 where
+  pub room : at₀ + length (lines_noted notes) ≤ length text₀
+  pub storing : Storing (lines_noted notes) text₀ at₀ text at (lines_noted (drop i notes))
 
-pub writing_start : (kinds answers text : List ℕ) → length kinds ≡ length answers → length (answer_lines kinds answers) ≤ length text
-    → Writing kinds answers text text 0 0
-writing_start kinds answers text same room = record { same = same; room = omega arith; storing = start (answer_lines kinds answers) text 0 }
+pub writing_start : (notes : List Note) (text : List ℕ) (at : ℕ) → at + length (lines_noted notes) ≤ length text → Writing notes text at text at 0
+writing_start notes text at room = record { room = room; storing = start (lines_noted notes) text at }
 
-module _ {kinds answers text₀ text : List ℕ} {at i : ℕ} (w : Writing kinds answers text₀ text at i) where
+module _ {notes : List Note} {text₀ : List ℕ} {at₀ : ℕ} {text : List ℕ} {at i : ℕ} (w : Writing notes text₀ at₀ text at i) where
   -- the two fields of the next line were written
-  pub writing_next : i < length kinds → {at' : ℕ} {text' : List ℕ}
-      → (at' ≡ place_after text at (field (get_or kinds i 0) 32)) × (text' ≡ placed text at (field (get_or kinds i 0) 32)) → {at'' : ℕ} {text'' : List ℕ}
-      → (at'' ≡ place_after text' at' (field (get_or answers i 0) 10)) × (text'' ≡ placed text' at' (field (get_or answers i 0) 10))
-      → Writing kinds answers text₀ text'' at'' (i + 1)
-  writing_next h kind answer =
-      let more = lines_from kinds answers i h (omega (arith, w.same)) in
+  pub writing_next : (e : Note) → i < length notes → {at' : ℕ} {text' : List ℕ}
+      → (at' ≡ place_after text at (field (get_or notes i e).kind 32)) × (text' ≡ placed text at (field (get_or notes i e).kind 32)) → {at'' : ℕ} {text'' : List ℕ}
+      → (at'' ≡ place_after text' at' (field (get_or notes i e).answer 10)) × (text'' ≡ placed text' at' (field (get_or notes i e).answer 10))
+      → Writing notes text₀ at₀ text'' at'' (i + 1)
+  writing_next e h kind answer =
       record {
-        same = w.same;
         room = w.room;
-        storing = next (field (get_or answers i 0) 10) w.room (next (field (get_or kinds i 0) 32) w.room (rw more at w.storing) kind) answer;
+        storing =
+            next (field (get_or notes i e).answer 10) w.room (next (field (get_or notes i e).kind 32) w.room (rw (lines_from notes i e h) at w.storing) kind) answer;
       }
 
   -- no request is left
-  pub writing_all : length kinds ≤ i → (at ≡ length (answer_lines kinds answers)) × (text ≡ put text₀ 0 (answer_lines kinds answers))
-  writing_all h =
-      let none = ap (λ (l : List ℕ). answer_lines l (drop i answers)) (drop_of_length-le kinds h) ∙ no_lines (drop i answers) in
-      let (place, is) = stored w.storing none in
-      (omega (arith, place), is)
+  pub writing_all : length notes ≤ i → (at ≡ at₀ + length (lines_noted notes)) × (text ≡ put text₀ at₀ (lines_noted notes))
+  writing_all h = stored w.storing (ap lines_noted (drop_of_length-le notes h) ∙ no_lines)
 
 -- THE LAST LINE
 
@@ -98,11 +91,34 @@ end_fields stop = refl
 pub end_start : (stop : ℕ) (out : List ℕ) (at : ℕ) → Storing (end_line stop) out at out at (end_word ++ field stop 10)
 end_start stop out at = subst (Storing (end_line stop) out at out at) (end_fields stop) (start (end_line stop) out at)
 
--- a number of 64 bits has at most 20 digits
-end_most : (stop : ℕ) → stop < 2 ^ 64 → length (end_line stop) ≤ 25
-end_most stop small =
-    let digits = length_most 19 stop (omega arith) in
-    omega (arith, ap length (end_fields stop), length-append end_word (field stop 10), field_length stop 10)
+-- the number of a refusal has at most two digits
+number_most : (w : Refusal) → number_of w ≤ 16
+number_most TooShort = omega arith
+number_most Number = omega arith
+number_most Kind = omega arith
+number_most ContentId = omega arith
+number_most EntryNumber = omega arith
+number_most Facts = omega arith
+number_most Ledger = omega arith
+number_most Titles = omega arith
+number_most Rules = omega arith
+number_most KindOfEntry = omega arith
+number_most StateOfRow = omega arith
+number_most NothingLeft = omega arith
+number_most Hash = omega arith
+number_most CopyOut = omega arith
+number_most PermitsFull = omega arith
+number_most Filler = omega arith
+
+stop_most : {A : Type 0} (stop : Result A Refusal) → answer_number stop ≤ 16
+stop_most (Ok a) = omega arith
+stop_most (Err w) = number_most w
+
+end_most : {A : Type 0} (stop : Result A Refusal) → length (end_line (answer_number stop)) ≤ 7
+end_most stop =
+    let n = answer_number stop in
+    let digits = length_most 1 n (omega (arith, stop_most stop)) in
+    omega (arith, ap length (end_fields n), length-append end_word (field n 10), field_length n 10)
 
 -- HOW MANY REQUESTS THERE ARE: no more than bytes
 
@@ -144,11 +160,6 @@ unfolding run
 carried_out pair [] {n} w p = rw (zero-add n) p
 carried_out pair (k ∷ ks) {n} w p = rw (suc-add (length ks) n, sym (add-suc (length ks) n)) (carried_out pair ks _ (more _ (answer_most pair k w.buffers) p))
 
--- a number of each
-how_many : (f : Answered → ℕ) {n : ℕ} {log : Log} → Small n log → length (map f log) ≡ n
-how_many f none = refl
-how_many f (more a h p) = ap suc (how_many f p)
-
 -- how large the numbers are
 kind_most : (q : Request) → kind_of q ≤ 7
 kind_most (Register c f) = omega arith
@@ -180,11 +191,22 @@ program_small : (s : List ℕ) → Small (length (stream_of s).requests) (in_ord
 program_small s = in_order_lem (rw (add-zero (length (stream_of s).requests)) at (carried_out Audio (stream_of s).requests (from (fresh Audio 64 0 0)) none))
 
 -- WHAT WAS NOTED of them stands in front
-noted : (places numbers : List ℕ) → length numbers ≤ length places → take (length numbers) (overwritten places numbers) ≡ numbers
+noted : (places notes : List Note) → length notes ≤ length places → take (length notes) (overwritten places notes) ≡ notes
 unfolding overwritten
 noted places [] h = refl
-noted [] (n ∷ numbers) h = absurd (omega arith)
-noted (x ∷ places) (n ∷ numbers) h = ap (λ (l : List ℕ). n ∷ l) (noted places numbers (omega arith))
+noted [] (n ∷ notes) h = absurd (omega arith)
+noted (x ∷ places) (n ∷ notes) h = ap (λ (l : List Note). n ∷ l) (noted places notes (omega arith))
+
+-- the lines of the notes are those of the kinds and the answers
+lines_of_notes : (log : Log) → lines_noted (map note_of log) ≡ answer_lines (map (λ a. kind_of a.call) log) (map (λ a. a.answer) log)
+unfolding answer_lines
+lines_of_notes [] = refl
+lines_of_notes (a ∷ log) = ap (λ (l : List ℕ). line (kind_of a.call ∷ a.answer ∷ []) ++ l) (lines_of_notes log)
+
+-- as many as there are calls
+notes_counted : {n : ℕ} {log : Log} → Small n log → length (map note_of log) ≡ n
+notes_counted none = refl
+notes_counted (more a h p) = ap suc (notes_counted p)
 
 -- ALL OF IT
 
@@ -193,70 +215,56 @@ abbrev lines_of : List ℕ → List ℕ
 lines_of s = answer_lines (kinds_in (program_run s)) (answers_in (program_run s))
 
 -- a stream s was served, and what was noted of its requests stands in front: their lines are those to print, and there is room for them
-pub record InFront (s : List ℕ) (r : Served) (kinds answers : List ℕ) : Type 0 where
-  pub stop : r.stop ≡ (stream_of s).stop
-  pub kinds_counted : IsPrefixLen r.count kinds
-  pub answers_counted : IsPrefixLen r.count answers
-  pub lines_are : answer_lines (take r.count kinds) (take r.count answers) ≡ lines_of s
+pub record InFront (s : List ℕ) (r : Served) (notes : List Note) : Type 0 where
+  pub stop : answer_number r.stop ≡ (stream_of s).stop
+  pub within : r.count ≤ length notes
+  pub taken : r.count ≡ length (take r.count notes)
+  pub lines_are : lines_noted (take r.count notes) ≡ lines_of s
   pub lines_short : length (lines_of s) ≤ 20480
 
 module _ (s : List ℕ) (few : length s ≤ 4096) where
-  -- there is a place for each
-  enough : (f : Answered → ℕ) → length (map f (in_order (program_run s).log)) ≤ length (replicate {A = ℕ} 4096 0)
-  enough f = omega (arith, how_many f (program_small s), requests_most s, length-replicate {A = ℕ} 4096 0)
-
-  -- of each request its number f was noted, from the first place on
-  module _ (f : Answered → ℕ) {count : ℕ} {numbers : List ℕ} (counts : count ≡ length (stream_of s).requests)
-      (are : numbers ≡ overwritten (replicate 4096 0) (map f (in_order (program_run s).log))) where
-    all_of : count ≡ length (map f (in_order (program_run s).log))
-    all_of = counts ∙ sym (how_many f (program_small s))
-
-    in_front : take count numbers ≡ map f (in_order (program_run s).log)
-    in_front = ap₂ take all_of are ∙ noted (replicate 4096 0) (map f (in_order (program_run s).log)) (enough f)
-
-    counted : IsPrefixLen count numbers
-    counted =
-        let all : count ≡ length (take count numbers) = all_of ∙ sym (ap length in_front) in
-        (omega (arith, length-take count numbers), all)
-
-  pub served_in_front : {r : Served} {after : Buffers} {kinds answers : List ℕ}
-      → Serves Audio s (fresh Audio 64 0 0) r after (replicate 4096 0) kinds (replicate 4096 0) answers → InFront s r kinds answers
-  served_in_front e =
+  pub served_in_front : {r : Served} {after : Buffers} {n : Note} {notes : List Note} → Serves Audio s (fresh Audio 64 0 0) r after (replicate 4096 n) notes → InFront s r notes
+  served_in_front {r} {after} {n} {notes} e =
+      let made = notes_in (program_run s) in
+      let count : r.count ≡ length made = e.count ∙ sym (notes_counted (program_small s)) in
+      let enough : length made ≤ length (replicate {A = Note} 4096 n) =
+      omega (arith, notes_counted (program_small s), requests_most s, length-replicate {A = Note} 4096 n) in
+      let in_front : take r.count notes ≡ made = ap₂ take count e.notes_are ∙ noted (replicate 4096 n) made enough in
+      let all : r.count ≡ length (take r.count notes) = count ∙ sym (ap length in_front) in
       record {
         stop = e.stop;
-        kinds_counted = counted (λ a. kind_of a.call) e.count e.kinds_are;
-        answers_counted = counted (λ a. a.answer) e.count e.answers_are;
-        lines_are = ap₂ answer_lines (in_front (λ a. kind_of a.call) e.count e.kinds_are) (in_front (λ a. a.answer) e.count e.answers_are);
+        within = omega (arith, length-take r.count notes);
+        taken = all;
+        lines_are = ap lines_noted in_front ∙ lines_of_notes (in_order (program_run s).log);
         lines_short = omega (arith, lines_most (program_small s), requests_most s);
       }
 
-module _ {s : List ℕ} {r : Served} {kinds answers : List ℕ} (d : InFront s r kinds answers) (text : List ℕ) (long : length text ≡ 20512) where
-  pub lines_fit : length (answer_lines (take r.count kinds) (take r.count answers)) ≤ length text
+module _ {s : List ℕ} {r : Served} {notes : List Note} (d : InFront s r notes) (text : List ℕ) (long : length text ≡ 20512) where
+  pub lines_fit : 0 + length (lines_noted (take r.count notes)) ≤ length text
   lines_fit = omega (arith, ap length d.lines_are, d.lines_short)
 
   -- they were written
-  module _ (small : r.stop < 2 ^ 64) {at : ℕ} {m : List ℕ}
-      (lines : (at ≡ length (answer_lines (take r.count kinds) (take r.count answers)))
-      × (m ≡ put text 0 (answer_lines (take r.count kinds) (take r.count answers)))) where
+  module _ {at : ℕ} {m : List ℕ}
+      (lines : (at ≡ 0 + length (lines_noted (take r.count notes))) × (m ≡ put text 0 (lines_noted (take r.count notes)))) where
     place : at ≡ length (lines_of s)
-    place = lines.0 ∙ ap length d.lines_are
+    place = omega (arith, lines.0, ap length d.lines_are)
 
     is : m ≡ put text 0 (lines_of s)
     is = lines.1 ∙ ap (put text 0) d.lines_are
 
     -- there is room for the last line after them
-    pub end_fits : at + length (end_line r.stop) ≤ length m
-    end_fits = omega (arith, place, d.lines_short, end_most r.stop small, ap length is, put_length text (lines_of s) 0 (omega (arith, d.lines_short)))
+    pub end_fits : at + length (end_line (answer_number r.stop)) ≤ length m
+    end_fits = omega (arith, place, d.lines_short, end_most r.stop, ap length is, put_length text (lines_of s) 0 (omega (arith, d.lines_short)))
 
     -- and with it all that is printed stands at the front
-    pub is_printed : {n : ℕ} {left : List ℕ} → (n ≡ at + length (end_line r.stop)) × (left ≡ put m at (end_line r.stop))
+    pub is_printed : {n : ℕ} {left : List ℕ} → (n ≡ at + length (end_line (answer_number r.stop))) × (left ≡ put m at (end_line (answer_number r.stop)))
         → (n ≡ length (counter_printed s)) × (IsPrefixLen n left × ((take n left ≡ counter_printed s) × (left ≡ put text 0 (counter_printed s))))
     unfolding counter_printed
     is_printed {n} {left} e =
         let more = end_line (stream_of s).stop in
-        let last_line : end_line r.stop ≡ more = ap end_line d.stop in
+        let last_line : end_line (answer_number r.stop) ≡ more = ap end_line d.stop in
         let whole = length-append (lines_of s) more in
-        let room : length (lines_of s ++ more) ≤ length text = omega (arith, d.lines_short, ap length last_line, end_most r.stop small) in
+        let room : length (lines_of s ++ more) ≤ length text = omega (arith, d.lines_short, ap length last_line, end_most r.stop) in
         let count : n ≡ length (lines_of s ++ more) = omega (arith, e.0, place, ap length last_line) in
         at_front text (lines_of s ++ more) room count
         (e.1

@@ -1,7 +1,8 @@
 -- What the program prints: the lines of the requests, in their order, and the last line. The quotes are document 01's.
-use Rattle.std.specs.Prelude.{ℕ, ◌≡◌, List, [], ◌∷◌, ◌++◌, codes}
+use Rattle.std.specs.Prelude.{ℕ, ◌≡◌, List, [], ◌∷◌, ◌++◌, codes, map}
 use Rattle.calls.specs.History.{answers_in}
 use Rattle.text.specs.Text.{line}
+use Rattle.music_counter.specs.declared.serve.Note.{Note}
 use Rattle.music_counter.specs.Serve.{stream_of, program_run, kinds_in}
 use Rattle.music_counter.specs.SampleRun.{sample_bytes}
 
@@ -10,6 +11,10 @@ unfoldable pub answer_lines : List ℕ → List ℕ → List ℕ
 answer_lines [] answers = []
 answer_lines (k ∷ kinds) [] = []
 answer_lines (k ∷ kinds) (a ∷ answers) = line (k ∷ a ∷ []) ++ answer_lines kinds answers
+
+-- the lines of requests of which these notes were taken
+abbrev pub lines_noted : List Note → List ℕ
+lines_noted notes = answer_lines (map (λ n. n.kind) notes) (map (λ n. n.answer) notes)
 
 -- `end` and a space
 abbrev pub end_word : List ℕ

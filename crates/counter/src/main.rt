@@ -40,7 +40,7 @@ fn write_end(stop: Result<(), Refusal>, text: &mut Text)
 }
 
 // What is printed, at the front of a text; answers how many bytes it has. A request has a byte or more, so that 4,096 places are
-// enough; its line has at most 5 bytes, and the last line at most 25.
+// enough; its line has at most 5 bytes, and the last line at most 7.
 fn printed(input: &[u8], text: &mut [u8; 20512]) -> usize
     requires { length input.now ≤ 4096 }
     ensures size { result ≡ length (counter_printed input.now) }

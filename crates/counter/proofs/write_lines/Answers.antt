@@ -1,16 +1,24 @@
 -- `counter::write_lines` meets its contract.
 -- Assumes nothing.
+use mathlib.Core.Path.{refl, ◌∙◌}
 use Rattle.counter.proofs.Laws.{writing_start, writing_next, writing_all}
 use Rattle.counter.proofs.write_lines.Goals as goal
 
-pub loop-i-init : goal.loop-i-init
-loop-i-init c = writing_start c.args.kinds.now c.args.answers.now c.args.text.now c.requires.paired c.requires.room
+pub loop-note-init : goal.loop-note-init
+loop-note-init c = record { lines = writing_start c.args.notes.now c.args.text.now.out.now c.args.text.now.at c.requires.room; name = refl }
 
-pub loop-i-preserved : goal.loop-i-preserved
-loop-i-preserved c =
-    writing_next c.loop-i.invariant c.loop-i-test.true
-    (c.write_at-at.ensures.place, c.write_at-at.ensures.written)
-    (c.write_at-at-in-loop-i.ensures.place, c.write_at-at-in-loop-i.ensures.written)
+pub loop-note-preserved : goal.loop-note-preserved
+loop-note-preserved c =
+    let last = c.number-in-loop-note.ensures in
+    record {
+      lines =
+          writing_next c.loop-note.invariant.lines _ c.loop-note-test.true
+          (c.number.ensures.place, c.number.ensures.written)
+          (last.place, last.written);
+      name = last.name ∙ c.number.ensures.name ∙ c.loop-note.invariant.name;
+    }
 
 pub returns : goal.returns
-returns c = let w = writing_all c.loop-i.invariant c.loop-i-test.false in record { place = w.0; written = w.1 }
+returns c =
+    let w = writing_all c.loop-note.invariant.lines c.loop-note-test.false in
+    record { place = w.0; written = w.1; name = c.loop-note.invariant.name }

@@ -1,11 +1,12 @@
--- The loop of `counter::write_lines`: the lines of the requests before the next one stand at the front.
+-- The loop of `counter::write_lines`: the lines of the requests before the next one are written.
 -- Assumes nothing.
-use Rattle.std.proofs.Common.{◌-◌, length}
+use Rattle.std.proofs.Common.{◌≡◌}
 use Rattle.counter.proofs.Laws.{Writing}
 use Rattle.counter.proofs.write_lines.Given as goal
 
-abbrev pub invariant-loop-i : goal.invariant-loop-i
-invariant-loop-i l = Writing l.kinds l.answers l.initial.text l.text l.at l.i
-
-abbrev pub decreases-loop-i : goal.decreases-loop-i
-decreases-loop-i l = length l.kinds - l.i
+abbrev pub invariant-loop-note : goal.invariant-loop-note
+invariant-loop-note l =
+    record {
+      lines : Writing l.notes l.initial.text.out.now l.initial.text.at l.text.out.now l.text.at l.note-index;
+      name : l.text.out.ghost_name ≡ l.initial.text.out.ghost_name;
+    }
