@@ -33,7 +33,7 @@ till: target/host/till target/host/sheet target/host/till-test
 
 # The header's constants and texts are those of the source, one by one, and comments have the answers of the definitions.
 constants:
-	host/till/constants.sh $(wildcard crates/*/src/refusal.rt)
+	host/till/constants.sh crates/formats/src/refusal.rt
 	host/till/answers.sh
 
 C = $(CC) -std=c11 -Wall -Wextra -pedantic -Werror -Iinclude

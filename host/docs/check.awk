@@ -85,16 +85,17 @@ function module_of(parts, count,    path, i) {
     return ""
 }
 
-# crate::module::name, crate::name of the crate's root or a module of it, or module::name.
-function check_item(item,    parts, count, file) {
+# crate::module::name, crate::name of the crate's root or a module of it, or module::name; before the name a type that has it.
+function check_item(item,    parts, count, modules, file, i) {
     places++
     count = split(item, parts, "::")
     if (item ~ /(^|::)(CRATE|CALL|NAME)(::|$)/) return
     if (count == 2 && exists("crates/" parts[1] "/src/" parts[2] ".rt")) return
-    file = module_of(parts, count)
+    modules = count > 2 && parts[count - 1] ~ /^[A-Z]/ ? count - 1 : count
+    file = module_of(parts, modules)
     if (file == "" || !exists(file)) fail(item ": there is no such module")
     take_in(file)
-    if (!((file, parts[count]) in declared)) fail(item ": its module declares no " parts[count])
+    for (i = modules; i <= count; i++) if (!((file, parts[i]) in declared)) fail(item ": its module declares no " parts[i])
 }
 
 # What stands between two backticks and is no place with a line.

@@ -29,7 +29,7 @@ wrong() {
 }
 
 right "\`$place:$line\` | \`part\` and \`$place:$line\` \`part\`"
-right '`crates/formats`, `formats/specs/Part.antt`, `crates/NAME/specs`, `tests_swapped.edit`, `formats::half::wipe`, `half::wipe`'
+right '`crates/formats`, `formats/specs/Part.antt`, `crates/NAME/specs`, `tests_swapped.edit`, `formats::half::wipe`, `half::wipe`, `text::Text::word`'
 right '[a](document.md), ![b](.), [c](https://example.org/none), [d](document.md#the-head), a lone ` and [e](#the-head)
 ## The head'
 
@@ -41,6 +41,8 @@ wrong 'see `docs/TRUST.md` and `docs/NONE.md`' 'there is no docs/NONE.md'
 wrong '`swapped_tests.edit`' 'no crate has a must-fail edit swapped_tests.edit'
 wrong '`formats::half::wiped`' 'formats::half::wiped: its module declares no wiped'
 wrong '`formats::nowhere::wipe`' 'formats::nowhere::wipe: there is no such module'
+wrong '`text::Text::words`' 'text::Text::words: its module declares no words'
+wrong '`text::Word::word`' 'text::Word::word: its module declares no Word'
 wrong '`nowhere::wipe`' 'nowhere::wipe: there is no such module'
 wrong '[a](none.md)' "there is no $folder/none.md"
 wrong '`a` ![b](none.svg)' "there is no $folder/none.svg"

@@ -1,7 +1,8 @@
 #!/usr/bin/env bash
 # Holds what comments say of the answers of the seven calls, formatting, tally and the sheet to the definitions: in the header
-# "Answers 4, 5; 10 where ..", in the source "// Answers 0, or 4, 5 or 10 ..", both in the order tested, and in docs/RULES.md the
-# table of tests. Exit code 1 where one differs, with what it is.
+# "Answers 4, 5; 10 where ..", in the source "// Answers 0, or 4, 5 or 10 with .." over a C function and "// Done, or refused with
+# 4, 5 or 10 and .." over one below it, all in the order tested, and in docs/RULES.md the table of tests. Exit code 1 where one
+# differs, with what it is.
 set -euo pipefail
 cd "$(dirname "$0")/../.."
 
@@ -33,7 +34,11 @@ in_header() {
 # The comments over functions of these files.
 in_source() {
     awk '
-        /^\/\/ Answers 0, or / { text = $0; sub(/^.* 0, or /, "", text); sub(/ with .*/, "", text); sub(/ or /, " ", text); next }
+        /^\/\/ (Answers 0, or|Done, or refused with) / {
+            text = $0
+            sub(/^\/\/ (Answers 0, or|Done, or refused with) /, "", text); sub(/ (with|and) .*/, "", text); sub(/ or /, " ", text)
+            next
+        }
         text != "" && /(^| )fn / {
             name = $0; sub(/^.*fn (counter_)?/, "", name); sub(/\(.*/, "", name)
             print name, text
@@ -61,6 +66,7 @@ same() {
 [ "$(defined | wc -l)" = 11 ] || { echo 'not eleven lists of numbers in the definitions:'; defined; exit 1; }
 same include/music_counter.h "$(in_header)"
 same crates/till/src/lib.rt "$(in_source crates/till/src/lib.rt)"
+same crates/tables/src/format.rt "$(in_source crates/tables/src/format.rt)" 'format_ledger|format_card'
 same crates/music_counter/src "$(in_source crates/music_counter/src/*.rt)" 'register|record|check_out|check_in|move_out|move_in|delete'
 same docs/RULES.md "$(in_rules)"
 echo 'answers: eleven functions in the header, the source and the rules'

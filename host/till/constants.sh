@@ -1,28 +1,40 @@
 #!/usr/bin/env bash
 # Holds the constants and texts of include/music_counter.h to the source, one by one:
 #
-#   - every refusal's name, number and words: `// Words.` over `pub const NAME: u64 = N;` in the source is `COUNTER_NAME = N`
-#     with `/* words */` in the header, and `counter_text` answers these words for it; 0 is `done`; there is no other constant,
-#     no number is left out and no two have the same words;
+#   - every refusal's name, number and words: `// Words.` over the variant `SomeName = N,` of the enum Refusal in the source is
+#     `COUNTER_SOME_NAME = N` with `/* words */` in the header, and `counter_text` answers these words for it; 0 is `done`; there
+#     is no other constant, no number is left out and no two have the same words;
 #   - every size, and the two values of a pair: what the definitions or the code have for it;
 #   - the number of the interface: that of the last landing note that has one, whose checksum of the declarations is that of the
 #     header's, so that no declaration changes without a new number;
 #   - the numbers by name in host/requests, which takes its texts from the header.
 #
-# constants.sh FILE..: the sources in which refusals have their names. Exit code 1 where something differs, with what it is.
+# constants.sh FILE: the source in which refusals have their names. Exit code 1 where something differs, with what it is.
 set -euo pipefail
 cd "$(dirname "$0")/../.."
 header=include/music_counter.h
 
-# NUMBER NAME of each constant of Rust or Rattle, with the words of the comment over it.
-named() {
+# NUMBER NAME of each variant of the enum Refusal, its name spelled as a constant's, with the words of the comment over it. A
+# line of the enum that is no such variant is an error.
+variants() {
     awk '
-        /^\/\/ / { words = (words == "" ? "" : words " ") substr($0, 4); next }
-        /^pub const [A-Z_]+: u64 = [0-9]+;$/ {
-            sub(/:/, "", $3); sub(/;/, "", $6); sub(/\.$/, "", words)
-            print $6, $3, tolower(substr(words, 1, 1)) substr(words, 2)
+        /^pub enum Refusal \{$/ { inside = 1; next }
+        /^}$/ { inside = 0 }
+        !inside { next }
+        /^ *\/\/ / { sub(/^ *\/\/ /, ""); words = (words == "" ? "" : words " ") $0; next }
+        /^ *[A-Z][A-Za-z]* = [0-9]+,$/ {
+            name = $1; gsub(/[A-Z]/, "_&", name); sub(/^_/, "", name)
+            sub(/,/, "", $3); sub(/\.$/, "", words)
+            print $3, toupper(name), tolower(substr(words, 1, 1)) substr(words, 2)
+            words = ""
+            next
         }
-        { words = "" }' "$@"
+        { print FILENAME ": no variant with its number: " $0 > "/dev/stderr"; exit 1 }' "$1"
+}
+
+# NUMBER NAME of each constant of Rust.
+named() {
+    sed -nE 's@^pub const ([A-Z_]+): u64 = ([0-9]+);$@\2 \1@p' "$1"
 }
 
 # The same of the header's enumeration, and of what counter_text answers.
@@ -46,14 +58,14 @@ same() {
     }
 }
 
-source=$(echo '0 DONE done'; named "$@" | sort -n)
+source=$(echo '0 DONE done'; variants "$1" | sort -n)
 last=$(($(wc -l <<< "$source") - 1))
 same 'the numbers of the source are not 0 to the last' "$(seq 0 $last)" "$(cut -d' ' -f1 <<< "$source")"
 same 'words that two numbers share' "$(cut -d' ' -f3- <<< "$source" | sort -u)" "$(cut -d' ' -f3- <<< "$source" | sort)"
 same "the constants of $header" "$source" "$(enumerated)"
 same "a line of the enumeration of $header is none of these" "$((last + 1))" "$(sed -n '/^enum {$/,/^};$/p' "$header" | grep -c COUNTER_)"
 same "counter_text of $header" "$source" "$(answered)"
-requests=$(named host/requests/answers.rs | cut -d' ' -f1,2)
+requests=$(named host/requests/answers.rs)
 [ -n "$requests" ] || { echo 'host/requests/answers.rs: no number has a name'; exit 1; }
 same 'host/requests/answers.rs' "$(cut -d' ' -f1,2 <<< "$source" | grep -xF "$requests")" "$requests"
 

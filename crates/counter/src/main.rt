@@ -5,36 +5,38 @@
 ghost use Rattle.std.specs.Prelude.{◌≡◌, ◌+◌, ◌≤◌, length, take};
 ghost use Rattle.io.specs.Counts.{IsPrefixLen};
 ghost use Rattle.formats.specs.Part.{put};
-ghost use Rattle.counter.specs.Printed.{answer_lines, end_line, counter_printed};
+ghost use Rattle.formats.specs.Refusal.{answer_number};
+ghost use Rattle.counter.specs.Printed.{lines_noted, end_line, counter_printed};
 
+use formats::refusal;
+use formats::refusal::Refusal;
 use music_counter::serve;
-use text::{decimal, word};
+use music_counter::serve::Note;
+use text::Text;
 
-// Writes the lines of requests at the front of a text, from their kinds and answers, and answers the place after them.
-fn write_lines(kinds: &[u64], answers: &[u64], text: &mut [u8]) -> usize
-    requires paired { length kinds.now ≡ length answers.now }
-    requires room { length (answer_lines kinds.now answers.now) ≤ length text.old }
-    ensures place { result ≡ length (answer_lines kinds.now answers.now) }
-    ensures written { text.new ≡ put text.old 0 (answer_lines kinds.now answers.now) }
+// Writes the lines of requests, from the notes of them.
+fn write_lines(notes: &[Note], text: &mut Text)
+    requires room { text.old.at + length (lines_noted notes.now) ≤ length text.old.out.now }
+    ensures place { text.new.at ≡ text.old.at + length (lines_noted notes.now) }
+    ensures written { text.new.out.now ≡ put text.old.out.now text.old.at (lines_noted notes.now) }
+    ensures name { text.new.out.ghost_name ≡ text.old.out.ghost_name }
 {
-    let mut at: usize = 0;
-    let mut i: usize = 0;
-    while i < kinds.len() {
-        at = decimal::write_at(kinds[i], b' ', text, at);
-        at = decimal::write_at(answers[i], b'\n', text, at);
-        i += 1;
+    for note in notes {
+        text.number(note.kind, b' ');
+        text.number(note.answer, b'\n');
     }
-    at
 }
 
-// Writes the last line from place `at` of a text on, and answers the place after it.
-fn write_end(stop: u64, text: &mut [u8], at: usize) -> usize
-    requires { at + length (end_line stop) ≤ length text.old }
-    ensures place { result ≡ at + length (end_line stop) }
-    ensures written { text.new ≡ put text.old at (end_line stop) }
+// Writes the last line.
+fn write_end(stop: Result<(), Refusal>, text: &mut Text)
+    requires room { text.old.at + length (end_line (answer_number stop)) ≤ length text.old.out.now }
+    ensures place { text.new.at ≡ text.old.at + length (end_line (answer_number stop)) }
+    ensures written { text.new.out.now
+        ≡ put text.old.out.now text.old.at (end_line (answer_number stop)) }
+    ensures name { text.new.out.ghost_name ≡ text.old.out.ghost_name }
 {
-    let at = word::write_at(b"end ", text, at);
-    decimal::write_at(stop, b'\n', text, at)
+    text.word(b"end ");
+    text.number(refusal::number(stop), b'\n');
 }
 
 // What is printed, at the front of a text; answers how many bytes it has. A request has a byte or more, so that 4,096 places are
@@ -49,19 +51,12 @@ fn printed(input: &[u8], text: &mut [u8; 20512]) -> usize
     let mut ledger = [0u8; 1560];
     let mut titles = [0u8; 16000];
     let mut rules = [0u8; 32000];
-    let mut kinds = [0u64; 4096];
-    let mut answers = [0u64; 4096];
-    let served = serve::from_fresh(
-        &mut ledger,
-        &mut titles,
-        &mut rules,
-        input,
-        &mut kinds,
-        &mut answers,
-    );
-    let count = served.count;
-    let at = write_lines(&kinds[..count], &answers[..count], text);
-    write_end(served.stop, text, at)
+    let mut notes = [Note { kind: 0, answer: 0 }; 4096];
+    let served = serve::from_fresh(&mut ledger, &mut titles, &mut rules, input, &mut notes);
+    let mut text = Text { out: text, at: 0 };
+    write_lines(&notes[..served.count], &mut text);
+    write_end(served.stop, &mut text);
+    text.at
 }
 
 // Prints the text of what was read, and only that.

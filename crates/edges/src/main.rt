@@ -44,7 +44,7 @@ mod readers;
 mod texts;
 mod writers;
 
-ghost use Rattle.std.specs.Prelude.{◌≡◌, ◌≤◌, length, replicate};
+ghost use Rattle.std.specs.Prelude.{◌≡◌, ◌≤◌, length, replicate, IfSome};
 ghost use Rattle.edges.specs.Cases.{digit_of, leaves};
 
 use crate::writers::Numbers;
@@ -64,69 +64,61 @@ fn main() {
     cases(&text[..n]);
 }
 
-// The value of a digit, 16 of anything else.
-fn digit(x: u8) -> u8
-    ensures { result ≡ digit_of x }
+// The value of a digit.
+fn digit(x: u8) -> Option<u8>
+    ensures value { result ≡ digit_of x }
+    ensures at_most_15 { IfSome result (λ value. value ≤ 15) }
 {
-    if x < 48 {
-        return 16;
+    match x {
+        b'0'..=b'9' => Some(x - b'0'),
+        b'A'..=b'F' => Some(x - b'A' + 10),
+        _ => None,
     }
-    if x <= 57 {
-        return x - 48;
-    }
-    if x < 65 {
-        return 16;
-    }
-    if x <= 70 {
-        return x - 55;
-    }
-    16
 }
 
-// Each digit goes into the bytes of the case that its line spells; where the line ends, the case is answered. A case has room
-// for the longest table that is tried, 32,001 bytes, and for what stands before it.
+// Each line is a case, but for what follows the last line end.
 fn cases(text: &[u8]) {
+    let Some(end) = text.iter().rposition(|x| *x == b'\n') else {
+        return;
+    };
+    for line in text[..end].split(|x| *x == b'\n') {
+        print::line(line);
+        case(line);
+        print::end();
+    }
+}
+
+// Each digit goes into the bytes of the case that its line spells. A case has room for the longest table that is tried, 32,001
+// bytes, and for what stands before it.
+fn case(line: &[u8]) {
     let mut case = [0u8; 32100];
     let mut digits: usize = 0;
-    let mut start: usize = 0;
-    let mut i: usize = 0;
-    while i < text.len() {
-        let x = text[i];
-        i += 1;
-        if x == b'\n' {
-            print::line(&text[start..i - 1]);
-            answer(case, digits / 2);
-            case = [0; 32100];
-            digits = 0;
-            start = i;
-        } else {
-            let value = digit(x);
+    for x in line {
+        if let Some(value) = digit(*x) {
             let at = digits / 2;
-            if value < 16 {
-                if at < 32100 {
-                    case[at] = case[at] % 16 * 16 + value;
-                    digits += 1;
-                }
+            if at < case.len() {
+                case[at] = case[at] % 16 * 16 + value;
+                digits += 1;
             }
         }
     }
+    answer(&case, digits / 2);
 }
 
 // Of a case that has n bytes.
-fn answer(case: [u8; 32100], n: usize)
+fn answer(case: &[u8; 32100], n: usize)
     requires { n ≤ 32100 }
 {
-    let code = table::byte(&case, 0);
+    let code = table::byte(case, 0);
     let start = 1 + 8 * (code / 16) as usize;
     if n < start {
         print::unknown();
     } else {
-        let v = writers::numbers_of(&case);
-        let mut part = case;
+        let v = writers::numbers_of(case);
+        let mut part = *case;
         texts::write(code, v, &mut part[start..n]);
-        run(code, v, &case, &mut part[start..n]);
+        run(code, v, case, &mut part[start..n]);
     }
-    print::end();
 }
 
 fn run(code: u8, v: Numbers, case: &[u8], part: &mut [u8])

@@ -1,4 +1,6 @@
 // The line of a case, and the parts of its answer.
+use formats::refusal;
+use formats::refusal::Refusal;
 
 pub fn line(s: &[u8]) {
     io::write_all(1, s);
@@ -19,14 +21,15 @@ pub fn number(x: u64) {
     io::print_decimal(1, x);
 }
 
-pub fn bytes(s: &[u8]) {
-    io::write_all(1, b" [");
-    digits(s);
-    io::write_all(1, b"]");
+// 0 where it is done, else the number of what it is refused with.
+pub fn answer(found: Result<(), Refusal>) {
+    number(refusal::number(found));
 }
 
-fn digits(s: &[u8]) {
-    for k in 0..s.len() {
-        io::print_hex(1, s[k] as u64, 2);
+pub fn bytes(s: &[u8]) {
+    io::write_all(1, b" [");
+    for x in s {
+        io::print_hex(1, *x as u64, 2);
     }
+    io::write_all(1, b"]");
 }

@@ -5,13 +5,16 @@ use closing_sheet::sheet;
 use formats::entry::EntryKind;
 use formats::facts::{ContentId, Facts};
 use formats::head::Pair;
+use formats::refusal::Refusal;
 use formats::row::RowState;
 use formats::{entry, field, half, head, row, rule, table, title};
 use music_counter::serve;
-use requests::number::NumberRead;
+use music_counter::serve::Note;
+use requests::number::Number;
 use requests::{number, request};
+use tables::card::Card;
 use tables::format;
-use text::decimal;
+use tables::shop::Shop;
 
 // What the part has that a case reads, or holds after a case that writes.
 pub fn show(code: u8, v: Numbers, case: &[u8], part: &[u8]) {
@@ -23,15 +26,15 @@ pub fn show(code: u8, v: Numbers, case: &[u8], part: &[u8]) {
         0x05 => stream(Pair::Audio, part),
         0x06 => print::number(field::read(part)),
         0x07 => stream(Pair::Picture, part),
-        0x11 => print::number(number::len(v.one) as u64),
-        0x12 => print::number(half::is_flagged(part, ContentId(v.one)) as u64),
-        0x13 => print::number(decimal::len(v.one) as u64),
-        0x21 => heads(v.one, table::part(case, 17, v.two as usize)),
+        0x11 => print::number(number::len(v[0]) as u64),
+        0x12 => print::number(half::is_flagged(part, ContentId(v[0])) as u64),
+        0x13 => print::number(text::len(v[0]) as u64),
+        0x21 => heads(v[0], table::part(case, 17, v[1] as usize)),
         0x22 => entry(
-            table::part(part, 0, v.one as usize),
-            table::part(part, 16, v.two as usize),
+            table::part(part, 0, v[0] as usize),
+            table::part(part, 16, v[1] as usize),
         ),
-        0x31 => closing(v.one, v.two as usize, v.three as usize, part),
+        0x31 => closing(v[0], v[1] as usize, v[2] as usize, part),
         _ => written(code, part),
     }
 }
@@ -61,7 +64,7 @@ fn fields(part: &[u8]) {
     print::number(half::flag(part) as u64);
     print::number(half::content_id(part).0);
     print::number(half::usable(part) as u64);
-    print::number(half::usable_id(part));
+    print::number(half::usable_id(part).map_or(0, |id| id.0));
     print::number(title::cci(part));
     print::number(rule::trigger(part));
     print::number(rule::rights(part));
@@ -104,31 +107,25 @@ fn entry(title: &[u8], rule: &[u8]) {
 }
 
 // 0, the number and its length; or what it is refused with.
-fn read(found: NumberRead) {
-    match found {
-        NumberRead::Number { value, len } => {
-            print::number(0);
-            print::number(value);
-            print::number(len as u64);
-        }
-        NumberRead::Refused(w) => print::number(w),
+fn read(found: Result<Number, Refusal>) {
+    print::answer(found.map(|_| ()));
+    if let Ok(read) = found {
+        print::number(read.value);
+        print::number(read.len as u64);
     }
 }
 
 // The tests and fields of a ledger's head, and those of the card's, as tables of either pair.
 fn heads(application: u64, table: &[u8]) {
-    print::number(head::check_ledger(table));
+    print::answer(head::check_ledger(table));
     print::number(head::ledger_application(table));
     print::number(head::rows(table));
     print::number(head::rules_application(table));
-    card_heads(Pair::Audio, application, table);
-    card_heads(Pair::Picture, application, table);
-}
-
-fn card_heads(pair: Pair, application: u64, table: &[u8]) {
-    print::number(head::check_titles(pair, table));
-    print::number(head::check_rules(pair, table));
-    print::number(head::check_rules_for(pair, table, application));
+    for pair in [Pair::Audio, Pair::Picture] {
+        print::answer(head::check_titles(pair, table));
+        print::answer(head::check_rules(pair, table));
+        print::answer(head::check_rules_for(pair, table, application));
+    }
 }
 
 // Row c's line, and the totals, of a ledger and the two tables behind it.
@@ -137,52 +134,44 @@ fn closing(c: u64, ledger_len: usize, titles_len: usize, part: &[u8]) {
     let card = table::part(part, ledger_len, part.len());
     let titles = table::part(card, 0, titles_len);
     let rules = table::part(card, titles_len, card.len());
-    let line = sheet::row_line(ledger, titles, rules, ContentId(c));
+    let shop = Shop { ledger, card: Card { titles, rules } };
+    let line = sheet::row_line(shop, ContentId(c));
     print::number(line.row);
     print::number(line.state);
     print::number(line.permits);
     print::number(line.rights);
     print::number(line.copies);
-    let sums = sheet::totals(ledger, titles, rules);
+    let sums = sheet::totals(shop);
     print::number(sums.permits);
     print::number(sums.copies);
     print::number(sums.len as u64);
 }
 
-// What serving answers, with four places for kinds and four for answers, and rows and entries 1 to 4 after it.
+// What serving answers, with four places for notes, their kinds and then their answers, and rows and entries 1 to 4 after it.
 fn stream(pair: Pair, requests: &[u8]) {
     let mut ledger = [0u8; 120];
     let mut titles = [0u8; 16000];
     let mut rules = [0u8; 32000];
-    format::format_ledger(&mut ledger, 4, 0);
-    format::format_card(pair, &mut titles, &mut rules, 0);
-    let mut kinds = [99u64; 4];
-    let mut answers = [99u64; 4];
+    let _ = format::format_ledger(&mut ledger, 4, 0);
+    let _ = format::format_card(pair, &mut titles, &mut rules, 0);
+    let mut notes = [Note { kind: 99, answer: 99 }; 4];
     let served = serve::all(
         pair,
         &mut ledger,
         &mut titles,
         &mut rules,
         requests,
-        &mut kinds,
-        &mut answers,
+        &mut notes,
     );
-    print::number(served.stop);
+    print::answer(served.stop);
     print::number(served.count as u64);
-    four(kinds);
-    four(answers);
-    shop(&ledger, &titles, &rules);
-}
-
-fn four(v: [u64; 4]) {
-    print::number(v[0]);
-    print::number(v[1]);
-    print::number(v[2]);
-    print::number(v[3]);
-}
-
-fn shop(ledger: &[u8], titles: &[u8], rules: &[u8]) {
-    print::bytes(table::part(ledger, 24, 96));
-    print::bytes(table::part(titles, 16, 64));
-    print::bytes(table::part(rules, 32, 128));
+    for note in &notes {
+        print::number(note.kind);
+    }
+    for note in &notes {
+        print::number(note.answer);
+    }
+    print::bytes(table::part(&ledger, 24, 96));
+    print::bytes(table::part(&titles, 16, 64));
+    print::bytes(table::part(&rules, 32, 128));
 }

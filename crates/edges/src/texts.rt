@@ -1,11 +1,13 @@
 // What a case writes in a text.
 ghost use Rattle.std.specs.Prelude.{◌≡◌};
+ghost use Rattle.text.specs.Text.{field, placed};
+ghost use Rattle.closing_sheet.specs.Sheet.{total_word};
 ghost use Rattle.edges.specs.Cases.{leaves_in_text};
 
 use crate::print;
 use crate::writers::Numbers;
 use formats::field;
-use text::{decimal, word};
+use text::Text;
 
 // Writes in the part and shows the place behind it; any other case leaves the part as it is.
 #[tactic(auto, unfolding(crate::specs::Cases::leaves_in_text))]
@@ -13,10 +15,24 @@ pub fn write(code: u8, v: Numbers, part: &mut [u8])
     ensures { part.new ≡ leaves_in_text code v part.old }
 {
     match code {
-        0x1e => print::number(word::write_at(b"total ", part, v.one as usize) as u64),
-        0x3a => print::number(
-            decimal::write_at(v.one, field::low_byte(v.two), part, v.three as usize) as u64,
-        ),
+        0x1e => word(part, v[0] as usize),
+        0x3a => number(v[0], field::low_byte(v[1]), part, v[2] as usize),
         _ => {}
     }
+}
+
+fn word(part: &mut [u8], at: usize)
+    ensures { part.new ≡ placed part.old at total_word }
+{
+    let mut text = Text { out: part, at };
+    text.word(b"total ");
+    print::number(text.at as u64);
+}
+
+fn number(n: u64, end: u8, part: &mut [u8], at: usize)
+    ensures { part.new ≡ placed part.old at (field n end) }
+{
+    let mut text = Text { out: part, at };
+    text.number(n, end);
+    print::number(text.at as u64);
 }

@@ -10,9 +10,10 @@ ghost use Rattle.sheet.specs.Printed.{sheet_printed};
 use closing_sheet::sheet;
 use formats::head::Pair;
 use music_counter::serve;
-use requests::number::Written;
+use tables::card::Card;
+use tables::shop::Shop;
 
-// What is printed, at the front of a text; answers how many bytes it has. Kinds and answers of the requests are not noted.
+// What is printed, at the front of a text; answers how many bytes it has. No request is noted.
 fn printed(input: &[u8], text: &mut [u8; 18432]) -> usize
     ensures size { result ≡ length (sheet_printed input.now) }
     ensures within { IsPrefixLen result text.new }
@@ -22,21 +23,10 @@ fn printed(input: &[u8], text: &mut [u8; 18432]) -> usize
     let mut ledger = [0u8; 1560];
     let mut titles = [0u8; 16000];
     let mut rules = [0u8; 32000];
-    let mut kinds = [0u64; 0];
-    let mut answers = [0u64; 0];
-    serve::from_fresh(
-        &mut ledger,
-        &mut titles,
-        &mut rules,
-        input,
-        &mut kinds,
-        &mut answers,
-    );
-    let written = sheet::write(Pair::Audio, &ledger, &titles, &rules, text);
-    match written {
-        Written::Wrote(n) => n,
-        Written::Refused(_) => 0,
-    }
+    let _ = serve::from_fresh(&mut ledger, &mut titles, &mut rules, input, &mut []);
+    let card = Card { titles: &titles, rules: &rules };
+    let shop = Shop { ledger: &ledger, card };
+    sheet::write(Pair::Audio, shop, text).unwrap_or(0)
 }
 
 // Prints the text of what was read, and only that.

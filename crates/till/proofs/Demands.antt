@@ -10,9 +10,7 @@ use lib.ListN.{length}
 use borrow.Author.Tests.{eq-eqb, ne_eqb}
 use Rattle.formats.specs.Answer.{Answer}
 use Rattle.formats.specs.Part.{put}
-use Rattle.requests.specs.declared.number.Written.{Written}
-use Rattle.requests.specs.declared.number.Written.TheVariants.{Refused as NotWritten}
-use Rattle.requests.specs.Number.{written_answer}
+use Rattle.requests.specs.Number.{Written, NotWritten, written_answer}
 use Rattle.requests.specs.Request.{kind_limit, request_of, written, writing_request, request_written_to}
 use Rattle.formats.proofs.Layouts.{layout}
 use Rattle.requests.proofs.Forms.{groups_of_seven, number_form, number_refused, one_written_form}

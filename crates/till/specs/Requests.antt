@@ -1,11 +1,8 @@
 -- What reading and writing a request leave in the places that a till lends for numbers.
 use Rattle.std.specs.Prelude.{ℕ, List, cond, eqb}
-use Rattle.requests.specs.declared.number.Written.{Written}
-use Rattle.requests.specs.declared.number.Written.TheVariants.{Wrote, Refused as NotWritten}
-use Rattle.requests.specs.declared.request.RequestRead.{RequestRead}
-use Rattle.requests.specs.declared.request.RequestRead.TheVariants.{Read, Refused}
-use Rattle.requests.specs.Request.{kind_limit, kind_of, values_of, request_of, writing_request, request_written_to}
-use Rattle.requests.specs.Packed.{filled}
+use Rattle.requests.specs.Number.{Written, Wrote, NotWritten}
+use Rattle.requests.specs.Request.{RequestRead, Read, Refused, kind_limit, kind_of, values_of, request_of, writing_request, request_written_to}
+use Rattle.requests.specs.Values.{filled}
 
 -- after reading: the kind, the arguments in their order with zeros up to nine, and the count of bytes read; on a refusal, what
 -- stood there before

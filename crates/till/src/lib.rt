@@ -5,6 +5,8 @@
 #![tactic(auto)]
 
 ghost use Rattle.std.specs.Prelude.{◌≡◌};
+ghost use Rattle.std.specs.Result.{result_unwrap_or};
+ghost use Rattle.formats.specs.Refusal.{answer_number, answer_of};
 ghost use Rattle.requests.specs.declared.request.Request.TheVariants.{Register, Record, CheckOut, CheckIn, MoveOut, MoveIn, Delete};
 ghost use Rattle.calls.specs.Buffers.{buffers_of};
 ghost use Rattle.tables.specs.Format.{ledger_formatting, formatted_ledger, card_formatting, formatted_titles, formatted_rules};
@@ -13,7 +15,7 @@ ghost use Rattle.closing_sheet.specs.Sheet.{sheet_writing, sheet_written_to};
 ghost use Rattle.music_counter.specs.Answer.{Answers, AnswersByLedger};
 ghost use Rattle.till.specs.Given.{pair_of, title, place, facts, fillers};
 ghost use Rattle.till.specs.Tally.{copies_after};
-ghost use Rattle.requests.specs.Number.{written_answer};
+ghost use Rattle.requests.specs.Number.{count_values, written_answer};
 ghost use Rattle.requests.specs.Request.{read_request, request_answer};
 ghost use Rattle.till.specs.Demands.{Demands};
 ghost use Rattle.till.specs.Requests.{kind_after, arguments_after, used_after, writing_numbers, numbers_written_to, count_after};
@@ -21,11 +23,12 @@ ghost use Rattle.till.specs.Requests.{kind_after, arguments_after, used_after, w
 use closing_sheet::sheet;
 use formats::facts::{ContentId, EntryNumber, Facts, Fillers};
 use formats::head::Pair;
+use formats::refusal;
+use formats::refusal::Refusal;
 use music_counter::{check_in, check_out, delete, move_in, move_out, record, register};
-use requests::number::Written;
 use requests::request;
-use requests::request::RequestRead;
-use tables::tally::Tallied;
+use tables::card::Card;
+use tables::shop::Shop;
 use tables::{format, tally};
 
 // The three demands on the definitions that the contracts below name. There is nothing to run: this says to whoever checks the library
@@ -41,13 +44,27 @@ fn pair_of(pair: bool) -> Pair
     if pair { Pair::Picture } else { Pair::Audio }
 }
 
+// Puts what was found into the place that is lent for it, and answers 0; a refusal leaves the place as it was and answers its number.
+fn tell<T: Copy + Drop>(found: Result<T, Refusal>, place: &mut T) -> u64
+    ensures answer { result ≡ answer_number found }
+    ensures told { place.new ≡ result_unwrap_or found place.old }
+{
+    match found {
+        Ok(value) => {
+            *place = value;
+            0
+        }
+        Err(refusal) => u64::from(refusal),
+    }
+}
+
 // Answers 0, or 4 or 7 with nothing changed.
 #[unsafe(no_mangle)]
 pub extern "C" fn counter_format_ledger(ledger: &mut [u8], rows: u64, application: u16) -> u64
     ensures answer { result ≡ ledger_formatting ledger.old rows }
     ensures ledger_formatted { ledger.new ≡ formatted_ledger ledger.old rows application }
 {
-    format::format_ledger(ledger, rows, application)
+    refusal::number(format::format_ledger(ledger, rows, application))
 }
 
 // Answers 0, or 8 or 9 with nothing changed in either table.
@@ -62,7 +79,7 @@ pub extern "C" fn counter_format_card(
     ensures titles_formatted { titles.new ≡ formatted_titles (pair_of pair) titles.old rules.old }
     ensures rules_formatted { rules.new ≡ formatted_rules (pair_of pair) titles.old rules.old application }
 {
-    format::format_card(pair_of(pair), titles, rules, application)
+    refusal::number(format::format_card(pair_of(pair), titles, rules, application))
 }
 
 // Answers 0, or 4, 6, 7 or 11 with nothing changed.
@@ -89,7 +106,7 @@ pub extern "C" fn counter_register(
         title_key,
         sti_key,
     };
-    register::register(ledger, ContentId(content), facts)
+    refusal::number(register::register(ledger, ContentId(content), facts))
 }
 
 // Answers 0, or 4, 5, 6, 7, 8, 9, 10 or 11 with nothing changed.
@@ -122,7 +139,7 @@ pub extern "C" fn counter_record(
         title_key,
         sti_key,
     };
-    record::record(
+    let answer = record::record(
         pair_of(pair),
         ledger,
         titles,
@@ -131,7 +148,8 @@ pub extern "C" fn counter_record(
         EntryNumber(entry),
         facts,
         hash,
-    )
+    );
+    refusal::number(answer)
 }
 
 // Answers 0, or 4, 5, 7, 8, 9, 10, 11 or 12 with nothing changed.
@@ -148,14 +166,15 @@ pub extern "C" fn counter_check_out(
         (buffers_of ledger.old titles.old rules.now) result
         (buffers_of ledger.new titles.new rules.now) }
 {
-    check_out::check_out(
+    let answer = check_out::check_out(
         pair_of(pair),
         ledger,
         titles,
         rules,
         ContentId(content),
         EntryNumber(entry),
-    )
+    );
+    refusal::number(answer)
 }
 
 // Answers 0, or 5, 7, 8, 9, 10, 11, 15 or 16 with nothing changed.
@@ -172,7 +191,8 @@ pub extern "C" fn counter_check_in(
         (buffers_of ledger.old titles.old rules.now) result
         (buffers_of ledger.new titles.new rules.now) }
 {
-    check_in::check_in(pair_of(pair), ledger, titles, rules, EntryNumber(entry), f1)
+    let answer = check_in::check_in(pair_of(pair), ledger, titles, rules, EntryNumber(entry), f1);
+    refusal::number(answer)
 }
 
 // Answers 0, or 5, 7, 8, 9, 10, 11, 12, 13 or 16 with nothing changed.
@@ -194,7 +214,7 @@ pub extern "C" fn counter_move_out(
         (buffers_of ledger.new titles.new rules.new) }
 {
     let fillers = Fillers { f1, f2, f3, f4 };
-    move_out::move_out(
+    let answer = move_out::move_out(
         pair_of(pair),
         ledger,
         titles,
@@ -202,7 +222,8 @@ pub extern "C" fn counter_move_out(
         EntryNumber(entry),
         hash,
         fillers,
-    )
+    );
+    refusal::number(answer)
 }
 
 // Answers 0, or 4, 5, 7, 8, 9, 10, 11, 12 or 14 with nothing changed.
@@ -220,7 +241,7 @@ pub extern "C" fn counter_move_in(
         (buffers_of ledger.old titles.old rules.old) result
         (buffers_of ledger.new titles.new rules.new) }
 {
-    move_in::move_in(
+    let answer = move_in::move_in(
         pair_of(pair),
         ledger,
         titles,
@@ -228,7 +249,8 @@ pub extern "C" fn counter_move_in(
         ContentId(content),
         EntryNumber(entry),
         hash,
-    )
+    );
+    refusal::number(answer)
 }
 
 // Answers 0, or 5, 7, 8, 9, 10, 11 or 16 with nothing changed.
@@ -249,14 +271,15 @@ pub extern "C" fn counter_delete(
         (buffers_of ledger.new titles.new rules.new) }
 {
     let fillers = Fillers { f1, f2, f3, f4 };
-    delete::delete(
+    let answer = delete::delete(
         pair_of(pair),
         ledger,
         titles,
         rules,
         EntryNumber(entry),
         fillers,
-    )
+    );
+    refusal::number(answer)
 }
 
 // Answers 0, or 4, 8 or 9 with `copies` as it was.
@@ -272,14 +295,8 @@ pub extern "C" fn counter_tally(
     ensures copies_told { copies.new
         ≡ copies_after (tallied (pair_of pair) titles.now rules.now content) copies.old }
 {
-    let found = tally::tally(pair_of(pair), titles, rules, ContentId(content));
-    match found {
-        Tallied::Copies(n) => {
-            *copies = n;
-            0
-        }
-        Tallied::Refused(w) => w,
-    }
+    let card = Card { titles, rules };
+    tell(tally::tally(pair_of(pair), card, ContentId(content)), copies)
 }
 
 // Answers 0, or 7, 8, 9 or 1 with nothing changed.
@@ -299,14 +316,8 @@ pub extern "C" fn counter_sheet(
     ensures used_told { used.new ≡ count_after (sheet_writing (pair_of pair)
         (buffers_of ledger.now titles.now rules.now) text.old) used.old }
 {
-    let written = sheet::write(pair_of(pair), ledger, titles, rules, text);
-    match written {
-        Written::Wrote(size) => {
-            *used = size;
-            0
-        }
-        Written::Refused(w) => w,
-    }
+    let shop = Shop { ledger, card: Card { titles, rules } };
+    tell(sheet::write(pair_of(pair), shop, text), used)
 }
 
 // Answers 0, or 1 to 6 with nothing changed.
@@ -323,20 +334,29 @@ pub extern "C" fn counter_read_request(
     ensures used_told { used.new ≡ used_after (read_request bytes.now) used.old }
 {
     let found = request::read(bytes);
-    let RequestRead::Read { request, len } = found else {
-        return request::number(found);
+    let Ok(read) = found else {
+        return refusal::number(found);
     };
-    let numbers = request::numbers_of(request);
+    let numbers = request::numbers_of(read.request);
     let values = numbers.values;
     *kind = numbers.kind;
     *arguments = values;
-    *used = len;
+    *used = read.len;
     0
+}
+
+// Writes the request of these numbers. Its kind is any number, and so it is tested first.
+#[tactic(auto, unfolding(crate::specs::Requests::writing_numbers, crate::specs::Requests::numbers_written_to))]
+fn write_numbers(kind: u64, arguments: [u64; 9], bytes: &mut [u8]) -> Result<usize, Refusal>
+    ensures answer { answer_of count_values result ≡ written_answer (writing_numbers kind arguments bytes.old) }
+    ensures written { bytes.new ≡ numbers_written_to kind arguments bytes.old }
+{
+    request::kind_limit(kind)?;
+    request::write(request::request_of(kind, arguments), bytes)
 }
 
 // Answers 0, or 3, 4, 5, 6 or 1 with nothing changed.
 #[unsafe(no_mangle)]
-#[tactic(auto, unfolding(crate::specs::Requests::writing_numbers, crate::specs::Requests::numbers_written_to))]
 pub extern "C" fn counter_write_request(
     bytes: &mut [u8],
     kind: u64,
@@ -348,16 +368,5 @@ pub extern "C" fn counter_write_request(
     ensures used_told { used.new
         ≡ count_after (writing_numbers kind arguments.now bytes.old) used.old }
 {
-    let w = request::kind_limit(kind);
-    if w != 0 {
-        return w;
-    }
-    let written = request::write(request::request_of(kind, *arguments), bytes);
-    match written {
-        Written::Wrote(n) => {
-            *used = n;
-            0
-        }
-        Written::Refused(w) => w,
-    }
+    tell(write_numbers(kind, *arguments, bytes), used)
 }
