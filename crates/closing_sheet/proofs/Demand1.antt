@@ -16,7 +16,7 @@ use Rattle.formats.specs.Part.{put}
 use Rattle.formats.proofs.Bytes.{bytes_put}
 use Rattle.formats.proofs.Part.{put_length}
 use Rattle.requests.specs.Number.{written_answer}
-use Rattle.requests.specs.declared.number.Written.TheVariants.{Wrote, Refused as NotWritten}
+use Rattle.requests.specs.Number.{Wrote, NotWritten}
 use Rattle.requests.specs.declared.request.Request.{Request}
 use Rattle.calls.specs.Buffers.{Buffers, Within}
 use Rattle.calls.specs.History.{start, run}

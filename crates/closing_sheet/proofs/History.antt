@@ -26,8 +26,8 @@ use Rattle.tables.specs.ByTitle.{first_full}
 use Rattle.closing_sheet.specs.declared.line.Line.{Line}
 use Rattle.closing_sheet.specs.Sheet.{state_shown, line_with, line_of, line_text, row_text, rows_text, total_line, permits_total, copies_total, sheet_text}
 use Rattle.closing_sheet.specs.History.{Printed, TitleOnSheet, SheetAddsUp}
-use Rattle.closing_sheet.proofs.sheet.Laws.{row_printed}
-use Rattle.closing_sheet.proofs.Shows.{holds_at, says, not_empty, line_shows}
+use Rattle.closing_sheet.proofs.sheet.Laws.{not_empty, row_printed}
+use Rattle.closing_sheet.proofs.Shows.{holds_at, says, line_shows}
 
 -- A ROW'S LINE STANDS IN THE TEXT
 

@@ -3,7 +3,6 @@
 use Prim.Native.Nat.{ℕ, zero, suc, ◌+◌, ◌≤◌, ◌<◌}
 use Rattle.std.specs.Prelude.{codes}
 use mathlib.Core.Path.{◌≡◌, refl, sym, ap, ap₂, ◌∙◌}
-use mathlib.Core.Logic.{◌≢◌}
 use mathlib.Core.List.{List, [], ◌++◌, append-nil}
 use mathlib.Core.Bool.{Bool, true, false, true≢false}
 use native.Mathlib.Omega.{arith}
@@ -12,8 +11,6 @@ use lib.Dec.{eqb}
 use borrow.Author.Tests.{eq-eqb, ne_eqb, eqb-true}
 use Rattle.formats.specs.Head.{rows_of}
 use Rattle.formats.specs.declared.head.Pair.{Pair}
-use Rattle.formats.specs.declared.row.RowState.{RowState}
-use Rattle.formats.specs.declared.row.RowState.TheVariants.{Empty, Here, Away, Gone, NoState}
 use Rattle.formats.specs.declared.entry.EntryKind.{EntryKind}
 use Rattle.formats.specs.declared.entry.EntryKind.TheVariants.{Free, Copy, Full, Torn}
 use Rattle.formats.specs.Entry.{entry_facts}
@@ -27,7 +24,7 @@ use Rattle.text.specs.Text.{decimal_in, decimal, field, line}
 use Rattle.closing_sheet.specs.Sheet.{line_with, line_of, rows_text, permits_added, copies_added, permits_total, copies_total, total_line, sheet_text, line_text}
 use Rattle.closing_sheet.specs.Shows.{NoFullBefore, LineShows, TextOf, Totals, SampleLines, SheetShows}
 use Rattle.closing_sheet.proofs.Sample.{sample_sheet}
-use Rattle.closing_sheet.proofs.sheet.Laws.{row_empty, row_printed, rows_next}
+use Rattle.closing_sheet.proofs.sheet.Laws.{not_empty, row_empty, row_printed, rows_next}
 
 -- THE FACTS ON THE CARD
 
@@ -76,13 +73,6 @@ module _ (b : Buffers) (c : ℕ) where
       }
 
 -- THE TEXT
-
-pub not_empty : (s : RowState) → s ≢ Empty → is_empty s ≡ false
-not_empty Empty h = absurd (h refl)
-not_empty (Here f) h = refl
-not_empty Away h = refl
-not_empty Gone h = refl
-not_empty NoState h = refl
 
 module _ (b : Buffers) where
   text_of : TextOf b (λ n. rows_text n b)

@@ -6,8 +6,7 @@ use Rattle.formats.specs.declared.head.Pair.{Pair}
 use Rattle.formats.specs.declared.facts.Facts.{Facts}
 use Rattle.formats.specs.declared.row.RowState.{RowState}
 use Rattle.formats.specs.declared.row.RowState.TheVariants.{Empty, Here, Away, Gone, NoState}
-use Rattle.requests.specs.declared.number.Written.{Written}
-use Rattle.requests.specs.declared.number.Written.TheVariants.{Wrote, Refused as NotWritten}
+use Rattle.requests.specs.Number.{Written, Wrote, NotWritten}
 use Rattle.formats.specs.Rule.{rights_of, permits_of}
 use Rattle.calls.specs.Buffers.{Buffers, rule_at, state_in, state_at, is_empty, copies, total}
 use Rattle.calls.specs.Conditions.{all_head_conditions}

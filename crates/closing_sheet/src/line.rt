@@ -1,16 +1,11 @@
 // A row's line on the sheet.
-ghost use Rattle.std.specs.Prelude.{◌≡◌, ◌*◌, ◌≤◌, length, get_or};
-ghost use Rattle.formats.specs.Row.{state_answer};
-ghost use Rattle.calls.specs.Buffers.{state_in};
-ghost use Rattle.closing_sheet.specs.Sheet.{state_shown, shown, permits_on_card, rights_on_card, line_with, line_text};
+ghost use Rattle.std.specs.Prelude.{◌≡◌, ◌+◌, ◌≤◌, length};
+ghost use Rattle.formats.specs.Part.{put};
+ghost use Rattle.closing_sheet.specs.Sheet.{line_text};
 
-use formats::facts::{ContentId, EntryNumber};
-use formats::row::RowState;
-use formats::{rule, table};
-use tables::card;
-use text::decimal;
+use text::Text;
 
-#[derive(Clone, Copy)]
+#[derive(Clone, Copy, Debug, PartialEq, Eq)]
 pub struct Line {
     pub row: u64,
     pub state: u64,
@@ -19,108 +14,31 @@ pub struct Line {
     pub copies: u64,
 }
 
-// Byte 0 of a row; a row past the end has none.
-fn first_byte(ledger: &[u8], content: ContentId) -> u64
-    ensures { result ≡ get_or ledger.now (24 * content.0) 0 }
-{
-    let id = content.0;
-    if (ledger.len() as u64) / 24 < id {
-        return 0;
+impl Line {
+    // How many bytes the line has as text.
+    pub fn len(self) -> usize
+        ensures text_length { result ≡ length (line_text self) }
+        ensures at_most_105 { result ≤ 105 }
+    {
+        text::len(self.row)
+            + text::len(self.state)
+            + text::len(self.permits)
+            + text::len(self.rights)
+            + text::len(self.copies)
+            + 5
     }
-    table::byte(ledger, 24 * (id as usize)) as u64
-}
 
-fn state_shown(state: RowState, byte: u64) -> u64
-    ensures { result ≡ state_shown state byte }
-{
-    match state {
-        RowState::Empty => 0,
-        RowState::Here(_) => 1,
-        RowState::Away => 2,
-        RowState::Gone => 3,
-        RowState::NoState => byte,
+    // Writes the line, for which there is room.
+    pub(crate) fn write(self, text: &mut Text)
+        requires { text.old.at + length (line_text self) ≤ length text.old.out.now }
+        ensures place { text.new.at ≡ text.old.at + length (line_text self) }
+        ensures written { text.new.out.now ≡ put text.old.out.now text.old.at (line_text self) }
+        ensures name { text.new.out.ghost_name ≡ text.old.out.ghost_name }
+    {
+        text.number(self.row, b' ');
+        text.number(self.state, b' ');
+        text.number(self.permits, b' ');
+        text.number(self.rights, b' ');
+        text.number(self.copies, b'\n');
     }
-}
-
-#[derive(Clone, Copy)]
-struct Counts {
-    permits: u64,
-    rights: u64,
-}
-
-fn none() -> Counts
-    ensures no_permits { result.permits ≡ 0 }
-    ensures no_rights { result.rights ≡ 0 }
-{
-    Counts {
-        permits: 0,
-        rights: 0,
-    }
-}
-
-// The permits and rights in an entry; none where its number is 0.
-fn on_card(rules: &[u8], entry: EntryNumber) -> Counts
-    ensures permits_on_card { result.permits ≡ permits_on_card rules.now entry.0 }
-    ensures rights_on_card { result.rights ≡ rights_on_card rules.now entry.0 }
-{
-    if entry.0 == 0 {
-        return none();
-    }
-    let half = card::rule_half(rules, entry);
-    Counts {
-        permits: rule::permits(half),
-        rights: rule::rights(half),
-    }
-}
-
-// Those that are shown of a row in this state.
-fn counts_shown(state: RowState, card: Counts) -> Counts
-    ensures permits_shown { result.permits ≡ shown state (λ f. f.permits) card.permits }
-    ensures rights_shown { result.rights ≡ shown state (λ f. f.rights) card.rights }
-{
-    match state {
-        RowState::Empty => none(),
-        RowState::Here(facts) => Counts {
-            permits: facts.permits,
-            rights: facts.rights,
-        },
-        RowState::Away => card,
-        RowState::Gone => none(),
-        RowState::NoState => none(),
-    }
-}
-
-// The line of a row in this state, of whose title so many copies are on the card and this is the full entry, 0 where it has none.
-pub(crate) fn of_row(
-    ledger: &[u8],
-    rules: &[u8],
-    content: ContentId,
-    state: RowState,
-    copies: u64,
-    entry: EntryNumber,
-) -> Line
-    requires { state_answer state ≡ state_answer (state_in ledger.now content.0) }
-    ensures { result ≡ line_with ledger.now rules.now content.0 copies entry.0 }
-{
-    let counts = counts_shown(state, on_card(rules, entry));
-    Line {
-        row: content.0,
-        state: state_shown(state, first_byte(ledger, content)),
-        permits: counts.permits,
-        rights: counts.rights,
-        copies,
-    }
-}
-
-// How many bytes a line has as text.
-pub fn len(line: Line) -> usize
-    ensures text_length { result ≡ length (line_text line) }
-    ensures at_most_105 { result ≤ 105 }
-{
-    decimal::len(line.row)
-        + decimal::len(line.state)
-        + decimal::len(line.permits)
-        + decimal::len(line.rights)
-        + decimal::len(line.copies)
-        + 5
 }

@@ -1,33 +1,30 @@
 // The sheet as text, in a buffer that the caller lends.
-ghost use Rattle.std.specs.Prelude.{◌≡◌, ◌+◌, ◌≤◌, length, get_or, leb};
+ghost use Rattle.std.specs.Prelude.{◌≡◌, ◌+◌, ◌*◌, ◌≤◌, length, leb, get_or};
 ghost use Rattle.formats.specs.Part.{put};
 ghost use Rattle.formats.specs.Head.{LedgerHead, rows_of};
-ghost use Rattle.requests.specs.Number.{written_answer};
+ghost use Rattle.formats.specs.Refusal.{answer_of};
 ghost use Rattle.formats.specs.Row.{state_answer};
-ghost use Rattle.calls.specs.Buffers.{buffers_of, state_in};
-ghost use Rattle.closing_sheet.specs.Sheet.{line_with, line_of, line_text, row_text, rows_text, other_than_15, permits_added, copies_added, permits_total, copies_total, total_line, sheet_text, sheet_writing, sheet_written_to};
-ghost use Rattle.closing_sheet.specs.Known.{Known};
+ghost use Rattle.requests.specs.Number.{count_values, written_answer};
+ghost use Rattle.calls.specs.Buffers.{buffers_of, state_in, copies};
+ghost use Rattle.calls.specs.Perform.{AreBytes};
+ghost use Rattle.tables.specs.ByTitle.{first_full};
+ghost use Rattle.tables.specs.Shop.{lent};
+ghost use Rattle.closing_sheet.specs.Known.{Known, printed};
+ghost use Rattle.closing_sheet.specs.Sheet.{permits_on_card, rights_on_card, line_of, rows_text, other_than_15, permits_total, copies_total, total_line, sheet_text, sheet_writing, sheet_written_to};
 
-use crate::line;
 use crate::line::Line;
 use formats::facts::{ContentId, EntryNumber};
 use formats::head::Pair;
+use formats::refusal::Refusal;
 use formats::row::RowState;
-use formats::{head, refusal};
-use requests::number::Written;
-use tables::{by_title, heads, ledger};
-use text::{decimal, word};
+use formats::{head, rule, table};
+use tables::card::Card;
+use tables::shop::Shop;
+use tables::{by_title, ledger};
+use text::Text;
 
 // Room for any sheet.
 const SHEET_SIZE: usize = 18432;
-
-// The sums of the last line, and how many bytes of text there are, or up to which place.
-#[derive(Clone, Copy)]
-pub struct Sums {
-    pub permits: u64,
-    pub copies: u64,
-    pub len: usize,
-}
 
 // The permits that a line adds to the sum: unlimited ones, 15, are no number of permits.
 fn other_than_15(permits: u64) -> u64
@@ -36,276 +33,233 @@ fn other_than_15(permits: u64) -> u64
     if permits == 15 { 0 } else { permits }
 }
 
-fn wide(number: u16) -> u64
-    ensures { result ≡ number }
-{
-    number as u64
+// The sums of the last line.
+#[derive(Clone, Copy, Debug, Default, PartialEq, Eq)]
+pub struct Sums {
+    pub permits: u64,
+    pub copies: u64,
 }
 
-// The number in place c; 0 past the last.
-fn at(places: &[u16], c: u64) -> u64
-    ensures { result ≡ get_or places.now c 0 }
-{
-    if places.len() as u64 <= c {
-        return 0;
+impl Sums {
+    // How many bytes the last line has.
+    fn len(self) -> usize
+        ensures text_length { result ≡ length (total_line self.permits self.copies) }
+        ensures at_most_48 { result ≤ 48 }
+    {
+        text::len(self.permits) + text::len(self.copies) + 8
     }
-    wide(places[c as usize])
+
+    // Writes the last line, for which there is room.
+    fn write(self, text: &mut Text)
+        requires { text.old.at + length (total_line self.permits self.copies) ≤ length text.old.out.now }
+        ensures place { text.new.at ≡ text.old.at + length (total_line self.permits self.copies) }
+        ensures written { text.new.out.now ≡ put text.old.out.now text.old.at (total_line self.permits self.copies) }
+        ensures name { text.new.out.ghost_name ≡ text.old.out.ghost_name }
+    {
+        text.word(b"total ");
+        text.number(self.permits, b' ');
+        text.number(self.copies, b'\n');
+    }
 }
 
-// The line of a row, by the tallies and the full entries of all titles.
-fn line_of(
-    ledger: &[u8],
-    rules: &[u8],
-    content: ContentId,
-    state: RowState,
-    tallies: &[u16],
-    entries: &[u16],
-) -> Line
-    requires { state_answer state ≡ state_answer (state_in ledger.now content.0) }
-    ensures { result ≡ line_with ledger.now rules.now content.0
-        (get_or tallies.now content.0 0) (get_or entries.now content.0 0) }
-{
-    line::of_row(
-        ledger,
-        rules,
-        content,
-        state,
-        at(tallies, content.0),
-        EntryNumber(at(entries, content.0)),
-    )
+// The sums of a sheet, and how many bytes it has as text.
+#[derive(Clone, Copy, Debug, PartialEq, Eq)]
+pub struct Summary {
+    pub sums: Sums,
+    pub len: usize,
 }
 
-// What one row adds to the sums, its line being printed or not. The title table is lent for what is promised: the tallies and the full
-// entries are its.
-fn added(
-    ledger: &[u8],
-    titles: &[u8],
-    rules: &[u8],
-    content: ContentId,
-    tallies: &[u16],
-    entries: &[u16],
-) -> Sums
-    requires { Known titles.now rules.now tallies.now entries.now }
-    ensures permits_added { result.permits ≡ permits_added (buffers_of ledger.now titles.now rules.now) content.0 }
-    ensures copies_added { result.copies ≡ copies_added (buffers_of ledger.now titles.now rules.now) content.0 }
-    ensures text_length { result.len ≡ length (row_text (buffers_of ledger.now titles.now rules.now) content.0) }
-    ensures at_most_15_permits { result.permits ≤ 15 }
-    ensures at_most_999_copies { result.copies ≤ 999 }
-    ensures at_most_105_bytes { result.len ≤ 105 }
+// The permits and rights that a line shows.
+#[derive(Clone, Copy, Default)]
+struct Counts {
+    permits: u64,
+    rights: u64,
+}
+
+// Byte 0 of a row; a row past the end has none.
+fn first_byte(ledger: &[u8], content: ContentId) -> u64
+    ensures { result ≡ get_or ledger.now (24 * content.0) 0 }
 {
-    let state = ledger::state(ledger, content);
-    if ledger::is_empty(state) {
-        return Sums {
-            permits: 0,
-            copies: 0,
-            len: 0,
+    u64::from(table::byte(table::slot::<24>(ledger, content.0), 0))
+}
+
+// A shop, with the number of copies and the first full entry of each title on its card.
+#[derive(Drop)]
+struct Sheet<'a> {
+    shop: Shop<'a>,
+    tallies: [u16; 1000],
+    entries: [u16; 1000],
+    ghost known: { Known shop.card.titles.now shop.card.rules.now tallies entries },
+    ghost bytes: { AreBytes (lent shop) },
+}
+
+impl<'a> Sheet<'a> {
+    // The buffers come one by one: of slices inside a struct the check does not know that they are bytes.
+    fn of(ledger: &'a [u8], titles: &'a [u8], rules: &'a [u8]) -> Self
+        ensures { lent result.shop ≡ buffers_of ledger.now titles.now rules.now }
+    {
+        let card = Card { titles, rules };
+        Sheet {
+            shop: Shop { ledger, card },
+            tallies: by_title::tallies(card),
+            entries: by_title::full_entries(card),
+        }
+    }
+}
+
+impl Sheet<'_> {
+    // The number of copies of a title.
+    fn copies(&self, content: ContentId) -> u64
+        ensures { result ≡ copies content.0 self.now.shop.card.titles.now self.now.shop.card.rules.now }
+    {
+        self.tallies
+            .get(content.0 as usize)
+            .copied()
+            .map_or(0, u64::from)
+    }
+
+    // The permits and rights in the first full entry of a title; none where it has none.
+    fn on_card(&self, content: ContentId) -> Counts
+        ensures permits_on_card { result.permits
+            ≡ permits_on_card self.now.shop.card.rules.now
+            (first_full content.0 self.now.shop.card.titles.now self.now.shop.card.rules.now) }
+        ensures rights_on_card { result.rights
+            ≡ rights_on_card self.now.shop.card.rules.now
+            (first_full content.0 self.now.shop.card.titles.now self.now.shop.card.rules.now) }
+    {
+        match self.entries.get(content.0 as usize) {
+            None | Some(0) => Counts::default(),
+            Some(entry) => {
+                let half = self.shop.card.rule_half(EntryNumber(u64::from(*entry)));
+                Counts {
+                    permits: rule::permits(half),
+                    rights: rule::rights(half),
+                }
+            }
+        }
+    }
+
+    // The line of a row in this state, empty or not.
+    fn line(&self, content: ContentId, state: RowState) -> Line
+        requires { state_answer state ≡ state_answer (state_in self.now.shop.ledger.now content.0) }
+        ensures { result ≡ line_of (lent self.now.shop) content.0 }
+    {
+        let (state, shown) = match state {
+            RowState::Empty => (0, Counts::default()),
+            RowState::Here(facts) => (
+                1,
+                Counts {
+                    permits: facts.permits,
+                    rights: facts.rights,
+                },
+            ),
+            RowState::Away => (2, self.on_card(content)),
+            RowState::Gone => (3, Counts::default()),
+            RowState::NoState => (first_byte(self.shop.ledger, content), Counts::default()),
         };
+        Line {
+            row: content.0,
+            state,
+            permits: shown.permits,
+            rights: shown.rights,
+            copies: self.copies(content),
+        }
     }
-    let line = line_of(ledger, rules, content, state, tallies, entries);
-    Sums {
-        permits: other_than_15(line.permits),
-        copies: line.copies,
-        len: line::len(line),
-    }
-}
 
-// How many bytes the last line has.
-fn total_len(permits: u64, copies: u64) -> usize
-    ensures text_length { result ≡ length (total_line permits copies) }
-    ensures at_most_48 { result ≤ 48 }
-{
-    decimal::len(permits) + decimal::len(copies) + 8
-}
-
-// What all rows add, and the length of the whole text.
-fn sum_rows(ledger: &[u8], titles: &[u8], rules: &[u8], tallies: &[u16], entries: &[u16]) -> Sums
-    requires { Known titles.now rules.now tallies.now entries.now }
-    ensures permits_total { result.permits ≡ permits_total (buffers_of ledger.now titles.now rules.now) }
-    ensures copies_total { result.copies ≡ copies_total (buffers_of ledger.now titles.now rules.now) }
-    ensures text_length { result.len ≡ length (sheet_text (buffers_of ledger.now titles.now rules.now)) }
-{
-    let rows = head::rows(ledger);
-    let mut permits: u64 = 0;
-    let mut copies: u64 = 0;
-    let mut len: usize = 0;
-    let mut row: u64 = 0;
-    while row < rows {
-        row += 1;
-        let more = added(ledger, titles, rules, ContentId(row), tallies, entries);
-        permits += more.permits;
-        copies += more.copies;
-        len += more.len;
+    // The line of a row that is not empty.
+    fn printed(&self, content: ContentId) -> Option<Line>
+        ensures { result ≡ printed (lent self.now.shop) content.0 }
+    {
+        match ledger::state(self.shop.ledger, content) {
+            RowState::Empty => None,
+            state => Some(self.line(content, state)),
+        }
     }
-    Sums {
-        permits,
-        copies,
-        len: len + total_len(permits, copies),
+
+    fn summary(&self) -> Summary
+        ensures permits_total { result.sums.permits ≡ permits_total (lent self.now.shop) }
+        ensures copies_total { result.sums.copies ≡ copies_total (lent self.now.shop) }
+        ensures text_length { result.len ≡ length (sheet_text (lent self.now.shop)) }
+    {
+        let mut sums = Sums::default();
+        let mut len = 0;
+        for k in 0..head::rows(self.shop.ledger) {
+            if let Some(line) = self.printed(ContentId(k + 1)) {
+                sums.permits += other_than_15(line.permits);
+                sums.copies += line.copies;
+                len += line.len();
+            }
+        }
+        Summary {
+            sums,
+            len: len + sums.len(),
+        }
+    }
+
+    // Whether the sheet of a ledger with a right head has room. Of a text with room for any sheet, its length need not be found.
+    fn has_room(&self, size: usize) -> bool
+        requires { LedgerHead self.now.shop.ledger.now }
+        ensures { result ≡ leb (length (sheet_text (lent self.now.shop))) size }
+    {
+        SHEET_SIZE <= size || self.summary().len <= size
+    }
+
+    // Writes the lines of all rows, lowest first, for which there is room; answers the sums.
+    fn write_rows(&self, text: &mut Text) -> Sums
+        requires front { text.old.at ≡ 0 }
+        requires room { length (rows_text (rows_of self.now.shop.ledger.now) (lent self.now.shop)) ≤ length text.old.out.now }
+        ensures permits_total { result.permits ≡ permits_total (lent self.now.shop) }
+        ensures copies_total { result.copies ≡ copies_total (lent self.now.shop) }
+        ensures place { text.new.at ≡ length (rows_text (rows_of self.now.shop.ledger.now) (lent self.now.shop)) }
+        ensures written { text.new.out.now
+            ≡ put text.old.out.now 0 (rows_text (rows_of self.now.shop.ledger.now) (lent self.now.shop)) }
+        ensures name { text.new.out.ghost_name ≡ text.old.out.ghost_name }
+    {
+        let mut sums = Sums::default();
+        for k in 0..head::rows(self.shop.ledger) {
+            if let Some(line) = self.printed(ContentId(k + 1)) {
+                sums.permits += other_than_15(line.permits);
+                sums.copies += line.copies;
+                line.write(text);
+            }
+        }
+        sums
     }
 }
 
 // The line of a row, empty or not.
-pub fn row_line(ledger: &[u8], titles: &[u8], rules: &[u8], content: ContentId) -> Line
-    ensures { result ≡ line_of (buffers_of ledger.now titles.now rules.now) content.0 }
+pub fn row_line(shop: Shop, content: ContentId) -> Line
+    ensures { result ≡ line_of (lent shop.entry) content.0 }
 {
-    let tallies = by_title::tallies(titles, rules);
-    let entries = by_title::full_entries(titles, rules);
-    let state = ledger::state(ledger, content);
-    line_of(ledger, rules, content, state, &tallies, &entries)
+    Sheet::of(shop.ledger, shop.card.titles, shop.card.rules).line(
+        content,
+        ledger::state(shop.ledger, content),
+    )
 }
 
 // The totals of a ledger and a card.
-pub fn totals(ledger: &[u8], titles: &[u8], rules: &[u8]) -> Sums
-    ensures permits_total { result.permits ≡ permits_total (buffers_of ledger.now titles.now rules.now) }
-    ensures copies_total { result.copies ≡ copies_total (buffers_of ledger.now titles.now rules.now) }
-    ensures text_length { result.len ≡ length (sheet_text (buffers_of ledger.now titles.now rules.now)) }
+pub fn totals(shop: Shop) -> Summary
+    ensures permits_total { result.sums.permits ≡ permits_total (lent shop.entry) }
+    ensures copies_total { result.sums.copies ≡ copies_total (lent shop.entry) }
+    ensures text_length { result.len ≡ length (sheet_text (lent shop.entry)) }
 {
-    let tallies = by_title::tallies(titles, rules);
-    let entries = by_title::full_entries(titles, rules);
-    sum_rows(ledger, titles, rules, &tallies, &entries)
+    Sheet::of(shop.ledger, shop.card.titles, shop.card.rules).summary()
 }
 
-// Writes a line from place `at` of a text on, and answers the place after it.
-fn write_line(line: Line, text: &mut [u8], at: usize) -> usize
-    requires { at + length (line_text line) ≤ length text.old }
-    ensures place { result ≡ at + length (line_text line) }
-    ensures written { text.new ≡ put text.old at (line_text line) }
+// Writes the sheet of a ledger and a card at the front of a text, and answers how many bytes it has; refused, with 7, 8, 9 or, where
+// there is no room for it, 1, it changes nothing.
+pub fn write(pair: Pair, shop: Shop, text: &mut [u8]) -> Result<usize, Refusal>
+    ensures answer { answer_of count_values result
+        ≡ written_answer (sheet_writing pair (lent shop.entry) text.old) }
+    ensures written { text.new ≡ sheet_written_to pair (lent shop.entry) text.old }
 {
-    let state = decimal::write_at(line.row, b' ', text, at);
-    let permits = decimal::write_at(line.state, b' ', text, state);
-    let rights = decimal::write_at(line.permits, b' ', text, permits);
-    let copies = decimal::write_at(line.rights, b' ', text, rights);
-    decimal::write_at(line.copies, b'\n', text, copies)
-}
-
-// Writes a row's line, where the row is not empty, and answers what it adds to the sums, and the place after it.
-fn write_row(
-    ledger: &[u8],
-    titles: &[u8],
-    rules: &[u8],
-    content: ContentId,
-    tallies: &[u16],
-    entries: &[u16],
-    text: &mut [u8],
-    at: usize,
-) -> Sums
-    requires card_known { Known titles.now rules.now tallies.now entries.now }
-    requires room { at + length (row_text (buffers_of ledger.now titles.now rules.now) content.0) ≤ length text.old }
-    ensures permits_added { result.permits ≡ permits_added (buffers_of ledger.now titles.now rules.now) content.0 }
-    ensures copies_added { result.copies ≡ copies_added (buffers_of ledger.now titles.now rules.now) content.0 }
-    ensures place { result.len ≡ at + length (row_text (buffers_of ledger.now titles.now rules.now) content.0) }
-    ensures written { text.new
-        ≡ put text.old at (row_text (buffers_of ledger.now titles.now rules.now) content.0) }
-    ensures at_most_15_permits { result.permits ≤ 15 }
-    ensures at_most_999_copies { result.copies ≤ 999 }
-{
-    let state = ledger::state(ledger, content);
-    if ledger::is_empty(state) {
-        return Sums {
-            permits: 0,
-            copies: 0,
-            len: at,
-        };
+    shop.check_heads(pair)?;
+    let sheet = Sheet::of(shop.ledger, shop.card.titles, shop.card.rules);
+    if !sheet.has_room(text.len()) {
+        return Err(Refusal::TooShort);
     }
-    let line = line_of(ledger, rules, content, state, tallies, entries);
-    Sums {
-        permits: other_than_15(line.permits),
-        copies: line.copies,
-        len: write_line(line, text, at),
-    }
-}
-
-// Writes the lines of all rows, lowest first, at the front of a text; answers the sums, and the place after the lines.
-fn write_rows(
-    ledger: &[u8],
-    titles: &[u8],
-    rules: &[u8],
-    tallies: &[u16],
-    entries: &[u16],
-    text: &mut [u8],
-) -> Sums
-    requires card_known { Known titles.now rules.now tallies.now entries.now }
-    requires room { length (rows_text (rows_of ledger.now) (buffers_of ledger.now titles.now rules.now)) ≤ length text.old }
-    ensures permits_total { result.permits ≡ permits_total (buffers_of ledger.now titles.now rules.now) }
-    ensures copies_total { result.copies ≡ copies_total (buffers_of ledger.now titles.now rules.now) }
-    ensures place { result.len ≡ length (rows_text (rows_of ledger.now) (buffers_of ledger.now titles.now rules.now)) }
-    ensures written { text.new ≡ put text.old 0
-        (rows_text (rows_of ledger.now) (buffers_of ledger.now titles.now rules.now)) }
-{
-    let rows = head::rows(ledger);
-    let mut permits: u64 = 0;
-    let mut copies: u64 = 0;
-    let mut at: usize = 0;
-    let mut row: u64 = 0;
-    while row < rows {
-        row += 1;
-        let line = write_row(
-            ledger,
-            titles,
-            rules,
-            ContentId(row),
-            tallies,
-            entries,
-            text,
-            at,
-        );
-        permits += line.permits;
-        copies += line.copies;
-        at = line.len;
-    }
-    Sums {
-        permits,
-        copies,
-        len: at,
-    }
-}
-
-// Writes the last line.
-fn write_total(permits: u64, copies: u64, text: &mut [u8], at: usize) -> usize
-    requires { at + length (total_line permits copies) ≤ length text.old }
-    ensures place { result ≡ at + length (total_line permits copies) }
-    ensures written { text.new ≡ put text.old at (total_line permits copies) }
-{
-    let at = word::write_at(b"total ", text, at);
-    let at = decimal::write_at(permits, b' ', text, at);
-    decimal::write_at(copies, b'\n', text, at)
-}
-
-// Whether the sheet of a ledger with a right head has room. Of a text with room for any sheet, its length need not be found.
-fn has_room(
-    ledger: &[u8],
-    titles: &[u8],
-    rules: &[u8],
-    tallies: &[u16],
-    entries: &[u16],
-    size: usize,
-) -> bool
-    requires card_known { Known titles.now rules.now tallies.now entries.now }
-    requires head { LedgerHead ledger.now }
-    ensures { result ≡ leb (length (sheet_text (buffers_of ledger.now titles.now rules.now))) size }
-{
-    if SHEET_SIZE <= size {
-        return true;
-    }
-    sum_rows(ledger, titles, rules, tallies, entries).len <= size
-}
-
-// Writes the sheet of a ledger and a card at the front of a text; refused, with 7, 8, 9 or, where there is no room for it, 1, it
-// changes nothing.
-pub fn write(pair: Pair, ledger: &[u8], titles: &[u8], rules: &[u8], text: &mut [u8]) -> Written
-    ensures answer { written_answer result
-        ≡ written_answer (sheet_writing pair (buffers_of ledger.now titles.now rules.now) text.old) }
-    ensures written { text.new
-        ≡ sheet_written_to pair (buffers_of ledger.now titles.now rules.now) text.old }
-{
-    let w = heads::check(pair, ledger, titles, rules);
-    if w != 0 {
-        return Written::Refused(w);
-    }
-    let tallies = by_title::tallies(titles, rules);
-    let entries = by_title::full_entries(titles, rules);
-    if !has_room(ledger, titles, rules, &tallies, &entries, text.len()) {
-        return Written::Refused(refusal::TOO_SHORT);
-    }
-    let sums = write_rows(ledger, titles, rules, &tallies, &entries, text);
-    Written::Wrote(write_total(sums.permits, sums.copies, text, sums.len))
+    let mut text = Text { out: text, at: 0 };
+    let sums = sheet.write_rows(&mut text);
+    sums.write(&mut text);
+    Ok(text.at)
 }

@@ -1,7 +1,7 @@
 -- A row's line: what it shows, how long it is as text, and how large its numbers are.
 -- Assumes nothing.
 use Prim.Native.Nat.{ℕ, ◌+◌, ◌*◌, ◌≤◌}
-use mathlib.Core.Path.{◌≡◌, refl, sym, ap, ap₂, subst}
+use mathlib.Core.Path.{◌≡◌, refl, sym, ap, subst}
 use mathlib.Core.List.{List, ◌++◌}
 use mathlib.Core.Bool.{Bool, true, false, cond, ◌&&◌, true≢false}
 use native.Mathlib.Omega.{arith}
@@ -23,15 +23,9 @@ use Rattle.calls.specs.Perform.{AreBytes}
 use Rattle.tables.specs.ByTitle.{first_full}
 use Rattle.tables.proofs.PerTitle.{ones}
 use Rattle.text.specs.Text.{decimal, field, line}
-use Rattle.text.proofs.decimal.Laws.{field_length, field_listed, length_most}
+use Rattle.text.proofs.Decimal.{field_length, field_listed, length_most}
 use Rattle.closing_sheet.specs.declared.line.Line.{Line}
 use Rattle.closing_sheet.specs.Sheet.{state_shown, shown, permits_on_card, rights_on_card, line_with, line_of, line_text}
-use Rattle.closing_sheet.specs.Known.{Known}
-
--- what was found out about the card is what the line shows
-pub known_line : (b : Buffers) {tallies entries : List ℕ} (c : ℕ) → Known b.titles b.rules tallies entries
-    → line_with b.ledger b.rules c (get_or tallies c 0) (get_or entries c 0) ≡ line_of b c
-known_line b c known = ap₂ (line_with b.ledger b.rules c) (known.tallies_are.at c) (known.entries_are.at c)
 
 -- the text of a line, field by field
 line_fields : (l : Line)

@@ -4,10 +4,11 @@ use Prim.Native.Nat.{ℕ, zero, suc, ◌+◌, ◌-◌, ◌*◌, ◌^◌, ◌≤�
 use mathlib.Core.Path.{◌≡◌, refl, sym, ap, ap₂, subst, ◌∙◌}
 use mathlib.Core.List.{List, [], ◌++◌}
 use mathlib.Core.Bool.{Bool, true, false, cond}
+use Rattle.std.specs.Prelude.{None, Some}
 use native.Mathlib.Omega.{arith}
 use native.Mathlib.Numerals.{add-one}
 use native.Mathlib.Nat.{add-zero, zero-add, suc-add, pow-le-pow_right}
-use lib.ListN.{length, get_or, take, drop, length-append, take-append-drop}
+use lib.ListN.{length, take, drop, length-append, take-append-drop}
 use lib.Seq.{take_all}
 use lib.Dec.{eqb}
 use Rattle.formats.specs.Head.{LedgerHead, rows_of}
@@ -20,21 +21,25 @@ use Rattle.formats.proofs.field.Laws.{number_below}
 use Rattle.formats.proofs.Stores.{Storing, start}
 use Rattle.formats.specs.Row.{state_answer}
 use Rattle.formats.specs.declared.row.RowState.{RowState}
+use Rattle.formats.specs.declared.row.RowState.TheVariants.{Empty, Here, Away, Gone, NoState}
 use Rattle.formats.proofs.row.Laws.{same_state}
 use Rattle.calls.specs.Buffers.{Buffers, state_at, is_empty, total}
 use Rattle.calls.specs.Perform.{AreBytes}
 use Rattle.text.specs.Text.{decimal, field, line}
-use Rattle.text.proofs.decimal.Laws.{field_length, field_listed, length_most}
+use Rattle.text.proofs.Decimal.{field_length, field_listed, length_most}
 use Rattle.closing_sheet.specs.declared.line.Line.{Line}
-use Rattle.closing_sheet.specs.Sheet.{line_with, line_of, line_text, row_text, rows_text, other_than_15, permits_added, copies_added, permits_total, copies_total, total_word, total_line, sheet_text}
-use Rattle.closing_sheet.specs.Known.{Known}
-use Rattle.closing_sheet.proofs.line.Laws.{known_line, permits_most, line_copies, line_listed, line_most}
+use Rattle.closing_sheet.specs.Sheet.{line_of, line_text, row_text, rows_text, other_than_15, permits_added, copies_added, permits_total, copies_total, total_word, total_line, sheet_text}
+use Rattle.closing_sheet.specs.Known.{printed}
+use Rattle.closing_sheet.proofs.line.Laws.{permits_most, line_copies, line_listed, line_most}
 
 -- ONE ROW
 
--- a state that was read as empty, or as another
-pub emptiness : (b : Buffers) (c : ℕ) (s : RowState) {x : Bool} → state_answer s ≡ state_answer (state_at b c) → x ≡ is_empty s → is_empty (state_at b c) ≡ x
-emptiness b c s e f = sym (f ∙ ap is_empty (same_state e))
+pub not_empty : (s : RowState) → (s ≡ Empty → ⊥) → is_empty s ≡ false
+not_empty Empty h = absurd (h refl)
+not_empty (Here f) h = refl
+not_empty Away h = refl
+not_empty Gone h = refl
+not_empty NoState h = refl
 
 pub other_most : (n : ℕ) → other_than_15 n ≤ n
 other_most n = by (eqb n 15)
@@ -55,24 +60,32 @@ module _ (b : Buffers) (c : ℕ) where
   unfolding row_text permits_added copies_added
   row_printed e = rw e (refl, refl, refl)
 
--- what the code writes of a row: nothing, or its line
-module _ (b : Buffers) (c : ℕ) (s : RowState) {x : Bool} (e : state_answer s ≡ state_answer (state_at b c)) (f : x ≡ is_empty s) where
-  pub writes_nothing : (text : List ℕ) (at : ℕ) → x ≡ true → (at ≡ at + length (row_text b c)) × (text ≡ put text at (row_text b c))
-  unfolding put
-  writes_nothing text at g =
-      let (nothing, permits, copies) = row_empty b c (emptiness b c s e f ∙ g) in (
-        omega (arith, ap length nothing),
-        sym
-            (ap (λ (p : List ℕ). take at text ++ (p ++ drop (at + length p) text)) nothing
-            ∙ ap (λ (k : ℕ). take at text ++ drop k text) (add-zero at)
-            ∙ take-append-drop at text),
-      )
+  -- what is printed of a row, by its state as it was read
+  pub prints_none : state_answer Empty ≡ state_answer (state_at b c) → None ≡ printed b c
+  prints_none e = rw (sym (same_state e)) refl
 
-  pub writes_line : {tallies entries : List ℕ} {l : Line} → x ≡ false → Known b.titles b.rules tallies entries
-      → l ≡ line_with b.ledger b.rules c (get_or tallies c 0) (get_or entries c 0) → line_text l ≡ row_text b c
-  writes_line g known is =
-      let (text, permits, copies) = row_printed b c (emptiness b c s e f ∙ g) in
-      ap line_text (is ∙ known_line b c known) ∙ sym text
+  pub prints : {s : RowState} {l : Line} → state_answer s ≡ state_answer (state_at b c) → (s ≡ Empty → ⊥) → l ≡ line_of b c → Some l ≡ printed b c
+  prints {s} e some l = rw (sym (same_state e), not_empty s some) (ap (λ (k : Line). Some k) l)
+
+  -- what is not printed adds nothing
+  pub none_adds : None ≡ printed b c → (row_text b c ≡ []) × (permits_added b c ≡ 0) × (copies_added b c ≡ 0)
+  none_adds e = row_empty (by (is_empty (state_at b c)) e)
+    where
+      by : (x : Bool) → None ≡ cond x None (Some (line_of b c)) → x ≡ true
+      by true h = refl
+      by false h = cc
+
+  -- and what is adds what the line has
+  printed_is : {l : Line} → Some l ≡ printed b c → (is_empty (state_at b c) ≡ false) × (l ≡ line_of b c)
+  printed_is {l} e = by (is_empty (state_at b c)) e
+    where
+      by : (x : Bool) → Some l ≡ cond x None (Some (line_of b c)) → (x ≡ false) × (l ≡ line_of b c)
+      by true h = (cc, cc)
+      by false h = (refl, cc)
+
+  pub line_adds : {l : Line} → Some l ≡ printed b c
+      → (row_text b c ≡ line_text l) × (permits_added b c ≡ other_than_15 l.permits) × (copies_added b c ≡ l.copies)
+  line_adds {l} e = let (some, is) = printed_is e in rw is (row_printed some)
 
 -- THE ROWS, one after another
 
@@ -93,6 +106,21 @@ rows_grow b n m h = let e : m - n + n ≡ m = omega arith in rw e at (grows b (m
 total_next : (w : ℕ → ℕ) (n : ℕ) → total (n + 1) w ≡ total n w + w (n + 1)
 unfolding total
 total_next w n = rw add-one (omega arith)
+
+-- THE SUMS are not large
+module _ (b : Buffers) where
+  added_most : (c : ℕ) → (permits_added b c ≤ 15) × (copies_added b c ≤ 999)
+  unfolding permits_added copies_added
+  added_most c = by (is_empty (state_at b c))
+    where
+      by : (x : Bool) → (cond x 0 (other_than_15 (line_of b c).permits) ≤ 15) × (cond x 0 (line_of b c).copies ≤ 999)
+      by true = (omega arith, omega arith)
+      by false = (omega (arith, other_most (line_of b c).permits, permits_most b c), line_copies b c)
+
+  totals_most : (n : ℕ) → (total n (permits_added b) ≤ 15 * n) × (total n (copies_added b) ≤ 999 * n)
+  unfolding total
+  totals_most zero = (omega arith, omega arith)
+  totals_most (suc n) = let (p, c) = totals_most n in let (q, d) = added_most (suc n) in (omega arith, omega arith)
 
 -- THE LAST LINE
 
@@ -115,7 +143,7 @@ sheet_length b = length-append (rows_text (rows_of b.ledger) b) (total_line (per
 -- THE LOOPS
 
 -- a field of two bytes is no larger
-rows_most : (l : List ℕ) → Bytes l → rows_of l ≤ 65535
+pub rows_most : (l : List ℕ) → Bytes l → rows_of l ≤ 65535
 rows_most l bytes =
     let m = part l 2 2 in
     let short : length m ≤ 2 = part_most 2 2 l in
@@ -124,109 +152,120 @@ rows_most l bytes =
     let whole : part m 0 (length m) ≡ m = take_all (length m) m (omega arith) in
     omega (arith, ap number whole)
 
--- what the rows 1 to `row` add to the sums
-pub record Added (b : Buffers) (rows row permits copies : ℕ) : Type 0 where
-  pub to : row ≤ rows
-  pub few : rows ≤ 65535
-  pub permits_are : permits ≡ total row (permits_added b)
-  pub copies_are : copies ≡ total row (copies_added b)
-  pub permits_few : permits ≤ 15 * row
-  pub copies_few : copies ≤ 999 * row
+-- what the rows 1 to n add to the sums
+pub record Added (b : Buffers) (n permits copies : ℕ) : Type 0 where
+  pub permits_are : permits ≡ total n (permits_added b)
+  pub copies_are : copies ≡ total n (copies_added b)
 
-pub added_start : (b : Buffers) {rows : ℕ} → rows ≡ rows_of b.ledger → Bytes b.ledger → Added b rows 0 0 0
+pub added_start : (b : Buffers) → Added b 0 0 0
 unfolding total
-added_start b rows bytes =
-    record {
-      to = omega arith;
-      few = omega (arith, rows, rows_most b.ledger bytes);
-      permits_are = refl;
-      copies_are = refl;
-      permits_few = omega arith;
-      copies_few = omega arith;
-    }
+added_start b = record { permits_are = refl; copies_are = refl }
 
-pub added_next : {b : Buffers} {rows row permits copies p n : ℕ} → Added b rows row permits copies → row < rows → p ≡ permits_added b (row + 1)
-    → n ≡ copies_added b (row + 1) → p ≤ 15 → n ≤ 999 → Added b rows (row + 1) (permits + p) (copies + n)
-added_next {b} {rows} {row} s h p n p-few n-few =
-    record {
-      to = omega arith;
-      few = s.few;
-      permits_are = omega (arith, s.permits_are, p, total_next (permits_added b) row);
-      copies_are = omega (arith, s.copies_are, n, total_next (copies_added b) row);
-      permits_few = omega (arith, s.permits_few);
-      copies_few = omega (arith, s.copies_few);
-    }
+-- and with the next row, n + 1
+module _ {b : Buffers} {n permits copies : ℕ} (s : Added b n permits copies) where
+  pub added_none : None ≡ printed b (n + 1) → Added b (n + 1) permits copies
+  added_none e =
+      let (text, p, c) = none_adds b (n + 1) e in
+      record {
+        permits_are = omega (arith, s.permits_are, p, total_next (permits_added b) n);
+        copies_are = omega (arith, s.copies_are, c, total_next (copies_added b) n);
+      }
 
-pub added_all : {b : Buffers} {rows row permits copies : ℕ} → Added b rows row permits copies → rows ≤ row → rows ≡ rows_of b.ledger
-    → (permits ≡ permits_total b) × (copies ≡ copies_total b)
-unfolding permits_total copies_total
-added_all {b} {rows} {row} s h r =
-    let to = s.to in
-    let e : row ≡ rows_of b.ledger = omega arith in
-    (s.permits_are ∙ ap (λ (m : ℕ). total m (permits_added b)) e, s.copies_are ∙ ap (λ (m : ℕ). total m (copies_added b)) e)
+  pub added_line : {l : Line} {k : ℕ} → Some l ≡ printed b (n + 1) → k ≡ other_than_15 l.permits → Added b (n + 1) (permits + k) (copies + l.copies)
+  added_line e k =
+      let (text, p, c) = line_adds b (n + 1) e in
+      record {
+        permits_are = omega (arith, s.permits_are, p, k, total_next (permits_added b) n);
+        copies_are = omega (arith, s.copies_are, c, total_next (copies_added b) n);
+      }
 
--- and how long their lines are
-pub record Measured (b : Buffers) (row len : ℕ) : Type 0 where
-  pub is : len ≡ length (rows_text row b)
-  pub short : len ≤ 105 * row
+  -- neither sum is large
+  pub added_few : (permits ≤ 15 * n) × (copies ≤ 999 * n)
+  added_few = let (p, c) = totals_most b n in (omega (arith, s.permits_are), omega (arith, s.copies_are))
+
+  pub added_all : n ≡ rows_of b.ledger → (permits ≡ permits_total b) × (copies ≡ copies_total b)
+  unfolding permits_total copies_total
+  added_all e = (s.permits_are ∙ ap (λ (m : ℕ). total m (permits_added b)) e, s.copies_are ∙ ap (λ (m : ℕ). total m (copies_added b)) e)
+
+-- how long their lines are
+pub record Measured (b : Buffers) (n len : ℕ) : Type 0 where
+  pub is : len ≡ length (rows_text n b)
+  pub short : len ≤ 105 * n
 
 pub measured_start : (b : Buffers) → Measured b 0 0
 unfolding rows_text
 measured_start b = record { is = refl; short = omega arith }
 
-pub measured_next : {b : Buffers} {row len k : ℕ} → Measured b row len → k ≡ length (row_text b (row + 1)) → k ≤ 105 → Measured b (row + 1) (len + k)
-measured_next {b} {row} m k short = record { is = omega (arith, m.is, k, rows_length b row); short = omega (arith, m.short) }
+module _ {b : Buffers} {n len : ℕ} (m : Measured b n len) where
+  pub measured_none : None ≡ printed b (n + 1) → Measured b (n + 1) len
+  measured_none e =
+      let (text, p, c) = none_adds b (n + 1) e in record { is = omega (arith, m.is, ap length text, rows_length b n); short = omega (arith, m.short) }
 
--- all of them, with the last line
-pub measured_all : {b : Buffers} {rows row permits copies len k : ℕ} → Added b rows row permits copies → Measured b row len → rows ≤ row → rows ≡ rows_of b.ledger
-    → k ≡ length (total_line permits copies) → len + k ≡ length (sheet_text b)
-measured_all {b} {rows} {row} s m h r last =
-    let to = s.to in
-    let e : row ≡ rows_of b.ledger = omega arith in
-    let (p, n) = added_all s h r in
-    omega (arith, m.is, last, ap (λ (i : ℕ). length (rows_text i b)) e, ap₂ (λ (x y : ℕ). length (total_line x y)) p n, sheet_length b)
+  pub measured_line : {l : Line} {k : ℕ} → Some l ≡ printed b (n + 1) → k ≡ length (line_text l) → k ≤ 105 → Measured b (n + 1) (len + k)
+  measured_line e k short =
+      let (text, p, c) = line_adds b (n + 1) e in record { is = omega (arith, m.is, k, ap length text, rows_length b n); short = omega (arith, m.short) }
 
--- the lines of the rows 1 to `row` stand at the front of the text
-pub record Written (b : Buffers) (rows : ℕ) (text₀ text : List ℕ) (at row : ℕ) : Type 0 where
-  pub to : row ≤ rows
+  -- all of them, with the last line
+  pub measured_all : {permits copies k : ℕ} → Added b n permits copies → n ≡ rows_of b.ledger → k ≡ length (total_line permits copies) → len + k ≡ length (sheet_text b)
+  measured_all s e last =
+      let (p, n) = added_all s e in
+      omega (arith, m.is, last, ap (λ (i : ℕ). length (rows_text i b)) e, ap₂ (λ (x y : ℕ). length (total_line x y)) p n, sheet_length b)
+
+-- the lines of the rows 1 to n stand at the front of the text, which has room for those of all
+pub record Written (b : Buffers) (rows : ℕ) (text₀ text : List ℕ) (at n : ℕ) : Type 0 where
   pub room : length (rows_text rows b) ≤ length text₀
-  pub place : at ≡ length (rows_text row b)
-  pub is : text ≡ put text₀ 0 (rows_text row b)
+  pub place : at ≡ length (rows_text n b)
+  pub is : text ≡ put text₀ 0 (rows_text n b)
   pub size : length text ≡ length text₀
 
-pub written_start : (b : Buffers) {rows : ℕ} (text : List ℕ) → rows ≡ rows_of b.ledger → length (rows_text (rows_of b.ledger) b) ≤ length text → Written b rows text text 0 0
+pub written_start : (b : Buffers) {at : ℕ} (text : List ℕ) → at ≡ 0 → length (rows_text (rows_of b.ledger) b) ≤ length text → Written b (rows_of b.ledger) text text at 0
 unfolding rows_text put
-written_start b text rows room =
-    record { to = omega arith; room = omega (arith, ap (λ (m : ℕ). length (rows_text m b)) rows, room); place = refl; is = refl; size = refl }
+written_start b text at room = record { room = room; place = at; is = refl; size = refl }
 
-module _ {b : Buffers} {rows : ℕ} {text₀ text : List ℕ} {at row : ℕ} (s : Written b rows text₀ text at row) where
+module _ {b : Buffers} {rows : ℕ} {text₀ text : List ℕ} {at n : ℕ} (s : Written b rows text₀ text at n) where
   -- there is room for the next row
-  pub row_fits : row < rows → at + length (row_text b (row + 1)) ≤ length text
-  row_fits h = omega (arith, s.place, s.room, s.size, rows_length b row, rows_grow b (row + 1) rows (omega arith))
+  row_fits : n < rows → at + length (row_text b (n + 1)) ≤ length text
+  row_fits h = omega (arith, s.place, s.room, s.size, rows_length b n, rows_grow b (n + 1) rows (omega arith))
 
-  pub written_next : {at' : ℕ} {text' : List ℕ} → row < rows → (at' ≡ at + length (row_text b (row + 1))) × (text' ≡ put text at (row_text b (row + 1)))
-      → Written b rows text₀ text' at' (row + 1)
-  written_next {at'} {text'} h (place, is) =
-      let front = rows_text row b in
-      let more = row_text b (row + 1) in
+  written_next : {at' : ℕ} {text' : List ℕ} → n < rows → at' ≡ at + length (row_text b (n + 1)) → text' ≡ put text at (row_text b (n + 1))
+      → Written b rows text₀ text' at' (n + 1)
+  written_next {at'} {text'} h place is =
+      let front = rows_text n b in
+      let more = row_text b (n + 1) in
       let fits = row_fits h in
       let start = s.place in
       let size = s.size in
       let whole : put (put text₀ 0 front) (length front) more ≡ put text₀ 0 (front ++ more)
       = ap (λ (k : ℕ). put (put text₀ 0 front) k more) (sym (zero-add (length front))) ∙ put_next text₀ front more 0 (omega arith) in
       record {
-        to = omega arith;
         room = s.room;
-        place = omega (arith, place, rows_length b row);
-        is = is ∙ ap₂ (λ (k : ℕ) (l : List ℕ). put l k more) s.place s.is ∙ whole ∙ ap (put text₀ 0) (sym (rows_next b row));
+        place = omega (arith, place, rows_length b n);
+        is = is ∙ ap₂ (λ (k : ℕ) (l : List ℕ). put l k more) s.place s.is ∙ whole ∙ ap (put text₀ 0) (sym (rows_next b n));
         size = ap length is ∙ put_length text more at fits ∙ s.size;
       }
 
-  pub written_all : rows ≤ row → rows ≡ rows_of b.ledger → (at ≡ length (rows_text (rows_of b.ledger) b)) × (text ≡ put text₀ 0 (rows_text (rows_of b.ledger) b))
-  written_all h r =
-      let to = s.to in
-      let e : row ≡ rows_of b.ledger = omega arith in
-      (s.place ∙ ap (λ (m : ℕ). length (rows_text m b)) e, s.is ∙ ap (λ (m : ℕ). put text₀ 0 (rows_text m b)) e)
+  pub written_none : n < rows → None ≡ printed b (n + 1) → Written b rows text₀ text at (n + 1)
+  unfolding put
+  written_none h e =
+      let (nothing, p, c) = none_adds b (n + 1) e in
+      written_next h (omega (arith, ap length nothing))
+      (sym
+      (ap (λ (p : List ℕ). take at text ++ (p ++ drop (at + length p) text)) nothing
+      ∙ ap (λ (k : ℕ). take at text ++ drop k text) (add-zero at)
+      ∙ take-append-drop at text))
+
+  -- and for its line
+  pub line_fits : {l : Line} → n < rows → Some l ≡ printed b (n + 1) → at + length (line_text l) ≤ length text
+  line_fits h e = let (text, p, c) = line_adds b (n + 1) e in omega (arith, row_fits h, ap length text)
+
+  pub written_line : {l : Line} {at' : ℕ} {text' : List ℕ} → n < rows → Some l ≡ printed b (n + 1) → at' ≡ at + length (line_text l)
+      → text' ≡ put text at (line_text l) → Written b rows text₀ text' at' (n + 1)
+  written_line h e place is =
+      let (line, p, c) = line_adds b (n + 1) e in
+      written_next h (place ∙ ap (λ (k : List ℕ). at + length k) (sym line)) (is ∙ ap (put text at) (sym line))
+
+  pub written_all : n ≡ rows_of b.ledger → (at ≡ length (rows_text (rows_of b.ledger) b)) × (text ≡ put text₀ 0 (rows_text (rows_of b.ledger) b))
+  written_all e = (s.place ∙ ap (λ (m : ℕ). length (rows_text m b)) e, s.is ∙ ap (λ (m : ℕ). put text₀ 0 (rows_text m b)) e)
 
 -- THE SHEET: its rows and its last line, in a text that has room for it
 module _ (b : Buffers) (text : List ℕ) (room : length (sheet_text b) ≤ length text) where
@@ -293,26 +332,12 @@ module _ (b : Buffers) (bytes : AreBytes b) where
   rows_long zero few = unfold rows_text in omega arith
   rows_long (suc n) few = omega (arith, rows_long n (omega arith), ap (λ (k : ℕ). length (rows_text k b)) (add-one n), rows_length b n, row_most (n + 1) (omega arith))
 
-  -- the sums have at most five and six digits
-  added_most : (c : ℕ) → (permits_added b c ≤ 15) × (copies_added b c ≤ 999)
-  unfolding permits_added copies_added
-  added_most c = by (is_empty (state_at b c))
-    where
-      by : (x : Bool) → (cond x 0 (other_than_15 (line_of b c).permits) ≤ 15) × (cond x 0 (line_of b c).copies ≤ 999)
-      by true = (omega arith, omega arith)
-      by false = (omega (arith, other_most (line_of b c).permits, permits_most b c), line_copies b c)
-
-  totals_most : (n : ℕ) → (total n (permits_added b) ≤ 15 * n) × (total n (copies_added b) ≤ 999 * n)
-  unfolding total
-  totals_most zero = (omega arith, omega arith)
-  totals_most (suc n) = let (p, c) = totals_most n in let (q, d) = added_most (suc n) in (omega arith, omega arith)
-
   pub sheet_most : LedgerHead b.ledger → length (sheet_text b) ≤ 18432
   unfolding permits_total copies_total
   sheet_most head =
       let rows = rows_of b.ledger in
       let high : rows ≤ 999 = head.high in
-      let (p, c) = totals_most rows in
+      let (p, c) = totals_most b rows in
       let permits = length_most 4 (permits_total b) (omega arith) in
       let copies = length_most 5 (copies_total b) (omega arith) in
       omega (arith, sheet_length b, total_length (permits_total b) (copies_total b), rows_long rows high)
