@@ -19,7 +19,7 @@ pub enum RowState {
     NoState,
 }
 
-// The states' numbers in byte 0.
+// The states' numbers in byte 0. They stay numbers: `write_plain` takes any byte, and an enum would ask more of its callers.
 pub const EMPTY: u8 = 0;
 
 pub const HERE: u8 = 1;

@@ -25,6 +25,9 @@ pub mod record;
 pub mod register;
 pub mod serve;
 
+// The seven writers stay apart, where one that takes the writer of the slot as a closure was proved too: each call would have to turn
+// its closure's clause into the equation that stands here once.
+
 // A row is here with these facts.
 fn set_here(ledger: &mut [u8], content: ContentId, facts: Facts)
     requires { 24 * content.0 + 24 ≤ length ledger.old }

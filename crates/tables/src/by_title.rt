@@ -33,7 +33,7 @@ fn title_in(card: Card, entry: EntryNumber, full: bool) -> Option<ContentId>
     }
 }
 
-// The number of copies of each title.
+// The number of copies of each title. A pass of its own, as the next: of a closure that fills the places nothing would be known after it.
 pub fn tallies(card: Card) -> [u16; 1000]
     ensures { ForEach (λ c. copies c card.entry.titles.now card.entry.rules.now) result }
 {
