@@ -44,22 +44,14 @@ mod readers;
 mod texts;
 mod writers;
 
-ghost use Rattle.std.specs.Prelude.{◌≡◌, ◌≤◌, length, replicate, IfSome};
+ghost use Rattle.std.specs.Prelude.{◌≡◌, ◌≤◌, IfSome};
 ghost use Rattle.edges.specs.Cases.{digit_of, leaves};
 
 use crate::writers::Numbers;
 use formats::table;
 
-// Room for all lines.
-fn room() -> [u8; 262144]
-    ensures zeros { result ≡ replicate 262144 0 }
-    ensures size { 262144 ≡ length result }
-{
-    [0; 262144]
-}
-
 fn main() {
-    let mut text = room();
+    let mut text = [0u8; 262144];
     let n = io::read_full(0, &mut text);
     cases(&text[..n]);
 }

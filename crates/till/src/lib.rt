@@ -1,7 +1,8 @@
 // What a till written in C calls: formatting, the seven calls, the tally, the closing sheet, and reading and writing requests, over
 // its own buffers, plain numbers and a bool for the pair. Formatting and the calls hand on what they are given, as the types that the
 // calls take. Tally, sheet, reading and writing also put numbers into the places that they are lent, and writing tests the kind, which
-// in C is any number. include/music_counter.h has the same thirteen in C.
+// in C is any number. What travels together below stands in parameters of its own here, and answers are numbers, since C has them so.
+// include/music_counter.h has the same thirteen in C.
 #![tactic(auto)]
 
 ghost use Rattle.std.specs.Prelude.{◌≡◌};
@@ -27,6 +28,7 @@ use formats::refusal;
 use formats::refusal::Refusal;
 use music_counter::{check_in, check_out, delete, move_in, move_out, record, register};
 use requests::request;
+use requests::request::Numbers;
 use tables::card::Card;
 use tables::shop::Shop;
 use tables::{format, tally};
@@ -37,7 +39,8 @@ pub fn three_demands()
     ensures { Demands }
 {}
 
-// A till's pair: false is audio, true picture. There is no third value to refuse.
+// A till's pair: false is audio, true picture. There is no third value to refuse. This is no `From<bool>` of the pair, since only the C
+// interface has a bool for it.
 fn pair_of(pair: bool) -> Pair
     ensures { result ≡ pair_of pair }
 {
@@ -340,9 +343,11 @@ pub extern "C" fn counter_read_request(
     let Ok(read) = found else {
         return refusal::number(found);
     };
-    let numbers = request::numbers_of(read.request);
-    let values = numbers.values;
-    *kind = numbers.kind;
+    let Numbers {
+        kind: found_kind,
+        values,
+    } = request::numbers_of(read.request);
+    *kind = found_kind;
     *arguments = values;
     *used = read.len;
     0
