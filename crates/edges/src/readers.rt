@@ -134,17 +134,20 @@ fn closing(c: u64, ledger_len: usize, titles_len: usize, part: &[u8]) {
     let card = table::part(part, ledger_len, part.len());
     let titles = table::part(card, 0, titles_len);
     let rules = table::part(card, titles_len, card.len());
-    let shop = Shop { ledger, card: Card { titles, rules } };
+    let shop = Shop {
+        ledger,
+        card: Card { titles, rules },
+    };
     let line = sheet::row_line(shop, ContentId(c));
     print::number(line.row);
     print::number(line.state);
     print::number(line.permits);
     print::number(line.rights);
     print::number(line.copies);
-    let sums = sheet::totals(shop);
-    print::number(sums.permits);
-    print::number(sums.copies);
-    print::number(sums.len as u64);
+    let totals = sheet::totals(shop);
+    print::number(totals.sums.permits);
+    print::number(totals.sums.copies);
+    print::number(totals.len as u64);
 }
 
 // What serving answers, with four places for notes, their kinds and then their answers, and rows and entries 1 to 4 after it.
@@ -154,7 +157,10 @@ fn stream(pair: Pair, requests: &[u8]) {
     let mut rules = [0u8; 32000];
     let _ = format::format_ledger(&mut ledger, 4, 0);
     let _ = format::format_card(pair, &mut titles, &mut rules, 0);
-    let mut notes = [Note { kind: 99, answer: 99 }; 4];
+    let mut notes = [Note {
+        kind: 99,
+        answer: 99,
+    }; 4];
     let served = serve::all(
         pair,
         &mut ledger,

@@ -41,12 +41,11 @@ module _ (s text : List ℕ) (long : length text ≡ 18432) where
     answer : answer_of count_values a ≡ done (length (sheet_text b) ∷ [])
     answer = e.0 ∙ ap (λ (z : Buffers). written_answer (sheet_writing Audio z text)) served ∙ writes.answers_length accepted
 
-    -- it is written
-    pub is_printed : (result_unwrap_or a 0 ≡ length (sheet_printed s))
-        × (((result_unwrap_or a 0 ≤ length left) × (result_unwrap_or a 0 ≡ length (take (result_unwrap_or a 0) left)))
-        × ((take (result_unwrap_or a 0) left ≡ sheet_printed s) × (left ≡ put text 0 (sheet_printed s))))
+    -- it is written, and n is the count that is told
+    pub is_printed : {n : ℕ} → n ≡ result_unwrap_or a 0
+        → (n ≡ length (sheet_printed s)) × (((n ≤ length left) × (n ≡ length (take n left))) × ((take n left ≡ sheet_printed s) × (left ≡ put text 0 (sheet_printed s))))
     unfolding sheet_printed
-    is_printed =
+    is_printed f =
         let room : length (sheet_text b) ≤ length text = (writes.answered.only_done accepted).1.1.1.0 in
         let is : left ≡ put text 0 (sheet_text b) = e.1 ∙ ap (λ (z : Buffers). sheet_written_to Audio z text) served ∙ writes.refused_first.carried_out accepted in
-        at_front text (sheet_text b) room (count_told a (length (sheet_text b)) answer) is
+        at_front text (sheet_text b) room (f ∙ count_told a (length (sheet_text b)) answer) is

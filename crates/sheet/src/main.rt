@@ -24,8 +24,14 @@ fn printed(input: &[u8], text: &mut [u8; 18432]) -> usize
     let mut titles = [0u8; 16000];
     let mut rules = [0u8; 32000];
     let _ = serve::from_fresh(&mut ledger, &mut titles, &mut rules, input, &mut []);
-    let card = Card { titles: &titles, rules: &rules };
-    let shop = Shop { ledger: &ledger, card };
+    let card = Card {
+        titles: &titles,
+        rules: &rules,
+    };
+    let shop = Shop {
+        ledger: &ledger,
+        card,
+    };
     sheet::write(Pair::Audio, shop, text).unwrap_or(0)
 }
 

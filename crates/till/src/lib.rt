@@ -295,8 +295,8 @@ pub extern "C" fn counter_tally(
     ensures copies_told { copies.new
         ≡ copies_after (tallied (pair_of pair) titles.now rules.now content) copies.old }
 {
-    let card = Card { titles, rules };
-    tell(tally::tally(pair_of(pair), card, ContentId(content)), copies)
+    let found = tally::tally(pair_of(pair), Card { titles, rules }, ContentId(content));
+    tell(found, copies)
 }
 
 // Answers 0, or 7, 8, 9 or 1 with nothing changed.
@@ -316,7 +316,10 @@ pub extern "C" fn counter_sheet(
     ensures used_told { used.new ≡ count_after (sheet_writing (pair_of pair)
         (buffers_of ledger.now titles.now rules.now) text.old) used.old }
 {
-    let shop = Shop { ledger, card: Card { titles, rules } };
+    let shop = Shop {
+        ledger,
+        card: Card { titles, rules },
+    };
     tell(sheet::write(pair_of(pair), shop, text), used)
 }
 

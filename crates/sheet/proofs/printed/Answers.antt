@@ -8,5 +8,5 @@ pub returns : goal.returns
 returns c =
     let w =
     is_printed _ _ (omega arith) c.from_fresh.ensures.serves.buffers c.write.result
-    (c.write.ensures.answer, c.write.ensures.written) in
+    (c.write.ensures.answer, c.write.ensures.written) c.unwrap_or.ensures in
     record { size = w.0; within = w.1.0; front = w.1.1.0; bytes = w.1.1.1 }
