@@ -11,17 +11,19 @@ pub fn low_byte(x: u64) -> u8
     (x & 0xff) as u8
 }
 
-// The number that a field holds. A field has at most 8 bytes: of a longer one the first 8 count.
+// The number that a field holds. A field has at most 8 bytes: of a longer one the first 8 count. A shorter one is read byte by
+// byte: copied behind zeros, it takes a call where its length is not known.
 pub fn read(field: &[u8]) -> u64
     ensures { result ≡ number (part field.now 0 8) }
 {
     if let Some(bytes) = field.first_chunk::<8>() {
         return u64::from_be_bytes(*bytes);
     }
-    let mut bytes = [0u8; 8];
-    let zeros = 8 - field.len();
-    bytes[zeros..].copy_from_slice(field);
-    u64::from_be_bytes(bytes)
+    let mut value: u64 = 0;
+    for byte in field {
+        value = (value << 8) | u64::from(*byte);
+    }
+    value
 }
 
 // The number in the field of `width` bytes that starts at place `start` of `s`. It ends where `s` ends.

@@ -43,6 +43,7 @@ fn facts(row: &[u8]) -> Facts
 }
 
 #[tactic(auto, unfolding(crate::specs::Row::state_of))]
+#[inline]
 pub fn state(row: &[u8]) -> RowState
     ensures { state_answer result ≡ state_answer (state_of row.now) }
 {

@@ -24,6 +24,7 @@ pub mod register;
 
 // What a call that names an entry tests before it looks there: 5, then 7, 8 and 9.
 #[tactic(auto, unfolding(calls::specs::Refusal::first))]
+#[inline]
 fn before_entry(pair: Pair, shop: Shop, entry: EntryNumber) -> Result<(), Refusal>
     ensures { answer_number result ≡ first (entry_conditions pair entry.0 (lent shop.entry)) }
 {
@@ -35,6 +36,7 @@ fn before_entry(pair: Pair, shop: Shop, entry: EntryNumber) -> Result<(), Refusa
 
 // And one that names a title too: 4, and then the same.
 #[tactic(auto, unfolding(calls::specs::Refusal::first))]
+#[inline]
 fn before_both(
     pair: Pair,
     shop: Shop,

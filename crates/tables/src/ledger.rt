@@ -9,6 +9,7 @@ use formats::{head, row, table};
 
 // The state of a row, read from the part of the ledger that it occupies. Row 0 and rows above R are in none.
 #[tactic(auto, unfolding(calls::specs::Buffers::state_in))]
+#[inline]
 pub fn state(ledger: &[u8], content: ContentId) -> RowState
     ensures { state_answer result ≡ state_answer (state_in ledger.now content.0) }
 {
@@ -20,6 +21,7 @@ pub fn state(ledger: &[u8], content: ContentId) -> RowState
 }
 
 // The facts of a row that is here; zeros of any other.
+#[inline]
 pub fn here_facts(ledger: &[u8], content: ContentId) -> Facts
     ensures { result ≡ here_facts (state_in ledger.now content.0) }
 {

@@ -7,10 +7,14 @@ use native.Mathlib.Omega.{arith}
 use native.Mathlib.Nat.{mod-eq_of_lt, div-eq_of_lt, mod-one, zero-div, mul-le-mul_right, zero-add, suc-add}
 use lib.ListN.{length, take, drop, get_or, replicate, length-append, length-drop, length-replicate, drop_of_length-le}
 use borrow.Rule.Slice.PartMut.{put_mid}
-use Rattle.std.proofs.lemmas.List.{take-replicate, take_all, length-take-le}
+use Rattle.std.proofs.lemmas.List.{take_all, length-take-le}
 use Rattle.std.proofs.Math.Seq.{take-append_seam}
 use lib.Seq.{drop-cons, take-suc, get_or-drop}
 use lib.Pow.{pow-add, pow_mono, mod-pow-add}
+use native.Mathlib.Numerals.{add-one}
+use lib.Bits.{bit_or}
+use lib.Dec.{lit≤}
+use Rattle.formats.proofs.Bits.{joined}
 use Rattle.formats.specs.Bytes.{Bytes}
 use Rattle.formats.specs.Part.{part}
 use Rattle.std.specs.Int.{w64, to_be_bytes, from_be_bytes, swap_bytes}
@@ -92,27 +96,31 @@ pub from_be : (l : List ℕ) → length l ≡ 8 → from_be_bytes w64 l ≡ numb
 unfolding number
 from_be l size = of_cells (λ (m : List ℕ). from_be_bytes w64 m ≡ number m) 8 l size (omega arith)
 
--- zeros in front of a field do not count
-pub number_zeros : (n : ℕ) (l : List ℕ) → number (replicate n 0 ++ l) ≡ number l
+-- what the loop of `read` keeps: the number of the first i bytes, with room for the next
+pub record Reading (l : List ℕ) (value i : ℕ) : Type 0 where
+  pub so_far : value ≡ number (take i l)
+  pub room : value < 2 ^ (8 * i)
+
+pub read_start : (l : List ℕ) → Reading l 0 0
 unfolding number
-number_zeros zero l = refl
-number_zeros (suc n) l = omega (arith, number_zeros n l)
+read_start l = record { so_far = refl; room = omega arith }
+
+pub read_next : {l : List ℕ} {value i byte : ℕ} → Reading l value i → i < length l → i < 8 → byte ≡ get_or l i 0 → byte < 256
+    → Reading l (bit_or ((value * 256) % 2 ^ 64) byte) (i + 1)
+read_next {l} {value} {i} {byte} r h few is small =
+    let e : 8 * (i + 1) ≡ 8 * i + 8 = omega arith in
+    let fits : value < 2 ^ 56 = omega (arith, r.room, pow_mono {i = 8 * i} {j = 56} (omega arith)) in
+    let next : bit_or ((value * 256) % 2 ^ 64) byte ≡ value * 256 + byte = joined 56 8 64 value byte fits (lit≤ tt) small in
+    record {
+      so_far = next ∙ rw (is, add-one, take-suc l i 0, number_snoc) (ap (λ (v : ℕ). v * 256 + get_or l i 0) r.so_far);
+      room = rw (next, e, pow-add) (omega (arith, r.room));
+    }
 
 -- a list whose last elements, from place a on, were stored at once
 pub stored_rest : (a : ℕ) (xs ys : List ℕ) → a + length ys ≡ length xs → put_mid a (length xs - a) xs ys ≡ take a xs ++ ys
 stored_rest a xs ys e =
     ap (λ (l : List ℕ). take a xs ++ (ys ++ l)) (drop_of_length-le (drop a xs) {i = length xs - a} (omega (arith, length-drop a xs)))
     ∙ ap (λ (l : List ℕ). take a xs ++ l) (append-nil ys)
-
--- fewer than eight bytes behind zeros
-pub behind_zeros : (l : List ℕ) {p : List ℕ} → length l < 8 → p ≡ l → from_be_bytes w64 (put_mid (8 - length l) (8 - (8 - length l)) (replicate 8 0) p) ≡ number l
-behind_zeros l {p} few e =
-    let n = 8 - length l in
-    let size : length l ≡ length p = ap length (sym e) in
-    let there : put_mid n (8 - n) (replicate 8 0) p ≡ replicate n 0 ++ l =
-    stored_rest n (replicate 8 0) p (omega arith)
-    ∙ ap₂ (λ (y z : List ℕ). y ++ z) (take-replicate n 8 0 (omega arith)) e in
-    rw there (from_be (replicate n 0 ++ l) (omega (arith, length-append (replicate n 0) l, length-replicate {A = ℕ} n 0)) ∙ number_zeros n l)
 
 -- the low bytes of a field of more of them
 pub low_bytes_of : (k n x : ℕ) → drop k (bytes_of (k + n) x) ≡ bytes_of n x
