@@ -64,7 +64,7 @@ pub fn rows(ledger: &[u8]) -> u64
     field::read_at(ledger, 2, 2)
 }
 
-// 0 where the ledger's length and head are right, else 7.
+// Done where the ledger's length and head are right, else 7.
 pub fn check_ledger(ledger: &[u8]) -> Result<(), Refusal>
     ensures { answer_number result ≡ ledger_answer ledger.now }
 {
@@ -81,7 +81,7 @@ pub fn check_ledger(ledger: &[u8]) -> Result<(), Refusal>
     Ok(())
 }
 
-// 0 where the title table's length and head are right, else 8. The head is compared eight bytes at a time.
+// Done where the title table's length and head are right, else 8. The head is compared eight bytes at a time.
 pub fn check_titles(pair: Pair, titles: &[u8]) -> Result<(), Refusal>
     ensures { answer_number result ≡ titles_answer pair titles.now }
 {
@@ -110,7 +110,7 @@ pub fn rules_application(rules: &[u8]) -> u64
     field::read_at(rules, 8, 2)
 }
 
-// 0 where the rule table's length and head are right, whatever its application number, else 9. A version above 11h is
+// Done where the rule table's length and head are right, whatever its application number, else 9. A version above 11h is
 // no error.
 pub fn check_rules(pair: Pair, rules: &[u8]) -> Result<(), Refusal>
     ensures { answer_number result ≡ rules_answer pair rules.now }

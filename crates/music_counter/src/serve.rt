@@ -63,7 +63,8 @@ pub struct Served {
     pub count: usize,
 }
 
-// What is noted of a request that was served: its kind, and the number that it was answered.
+// What is noted of a request that was served: its kind, and the number that it was answered. Both are numbers, as the programs print
+// them and as the log of the theorems has them.
 #[derive(Clone, Copy, Debug, PartialEq, Eq)]
 pub struct Note {
     pub kind: u64,

@@ -46,7 +46,8 @@ pub fn tallies(card: Card) -> [u16; 1000]
     counts
 }
 
-// The first full entry of each title; 0 where it has none.
+// The first full entry of each title; 0, which is no entry's number, where it has none: so `first_full` says it, and an Option in each
+// place would be turned back to that.
 pub fn full_entries(card: Card) -> [u16; 1000]
     ensures { ForEach (λ c. first_full c card.entry.titles.now card.entry.rules.now) result }
 {
