@@ -179,9 +179,14 @@ module _ {b : Buffers} {n permits copies : ℕ} (s : Added b n permits copies) w
         copies_are = omega (arith, s.copies_are, c, total_next (copies_added b) n);
       }
 
-  -- neither sum is large
-  pub added_few : (permits ≤ 15 * n) × (copies ≤ 999 * n)
-  added_few = let (p, c) = totals_most b n in (omega (arith, s.permits_are), omega (arith, s.copies_are))
+  -- neither sum is large, since a field of two bytes has the number of rows
+  pub added_small : {l : Line} {k : ℕ} → Bytes b.ledger → n < rows_of b.ledger → Some l ≡ printed b (n + 1) → k ≡ other_than_15 l.permits
+      → (permits + k ≤ 15 * 65535) × (copies + l.copies ≤ 999 * 65535)
+  added_small bytes h e k =
+      let after = added_line e k in
+      let few = rows_most b.ledger bytes in
+      let (p, c) = totals_most b (n + 1) in
+      (omega (arith, after.permits_are), omega (arith, after.copies_are))
 
   pub added_all : n ≡ rows_of b.ledger → (permits ≡ permits_total b) × (copies ≡ copies_total b)
   unfolding permits_total copies_total

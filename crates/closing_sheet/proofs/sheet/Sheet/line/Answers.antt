@@ -1,6 +1,7 @@
 -- `line` makes the line of the definition, state by state.
 -- Assumes nothing.
-use mathlib.Core.Path.{refl, sym, ◌∙◌}
+use Rattle.std.proofs.Common.{rules}
+use mathlib.Core.Path.{sym, ◌∙◌}
 use Rattle.formats.proofs.row.Laws.{same_state}
 use Rattle.closing_sheet.specs.Sheet.{line_with}
 use Rattle.closing_sheet.proofs.sheet.Sheet.line.Goals as goal
@@ -11,10 +12,9 @@ unfolding line_with
 returns c =
     let e = sym (same_state c.requires) in
     elim c.match-state.branch [
-      | in-Empty w ↦ rw (w.state-is, c.copies.ensures, e ∙ w.in-Empty.is, w.default.ensures.0, w.default.ensures.1) refl
-      | in-Here w ↦ rw (w.state-is, c.copies.ensures, e ∙ w.in-Here.is) refl
-      | in-Away w ↦ rw (w.state-is, c.copies.ensures, e ∙ w.in-Away.is, w.on_card.ensures.permits_on_card, w.on_card.ensures.rights_on_card) refl
-      | in-Gone w ↦ rw (w.state-is, c.copies.ensures, e ∙ w.in-Gone.is, w.default-in-Gone.ensures.0, w.default-in-Gone.ensures.1) refl
-      | in-NoState w ↦
-          rw (w.state-is, c.copies.ensures, e ∙ w.in-NoState.is, w.first_byte.ensures, w.default-in-NoState.ensures.0, w.default-in-NoState.ensures.1) refl
+      | in-Empty w ↦ rw (w.state-is, e ∙ w.in-Empty.is) (search rules)
+      | in-Here w ↦ rw (w.state-is, e ∙ w.in-Here.is) (search rules)
+      | in-Away w ↦ rw (w.state-is, e ∙ w.in-Away.is) (search rules)
+      | in-Gone w ↦ rw (w.state-is, e ∙ w.in-Gone.is) (search rules)
+      | in-NoState w ↦ rw (w.state-is, e ∙ w.in-NoState.is) (search rules)
     ]

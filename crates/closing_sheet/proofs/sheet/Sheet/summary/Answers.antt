@@ -2,7 +2,7 @@
 -- Assumes nothing.
 use Rattle.std.proofs.Common.{◌≡◌, arith}
 use Rattle.formats.specs.Head.{rows_of}
-use Rattle.closing_sheet.proofs.sheet.Laws.{rows_most, added_start, added_none, added_line, added_few, added_all, measured_start, measured_none, measured_line, measured_all}
+use Rattle.closing_sheet.proofs.sheet.Laws.{rows_most, added_start, added_none, added_line, added_small, added_all, measured_start, measured_none, measured_line, measured_all}
 use Rattle.closing_sheet.proofs.sheet.Sheet.summary.Goals as goal
 use Rattle.closing_sheet.proofs.sheet.Sheet.summary.Goals.{in-Some, in_default}
 
@@ -11,14 +11,12 @@ loop-k-init c = record { added = rw (c.default-sums.ensures.0, c.default-sums.en
 
 pub overflow_add-sums : goal.overflow_add-sums
 overflow_add-sums c =
-    let few = rows_most _ c.args.self.now.bytes.ledger in
-    let (permits, copies) = added_few (added_line c.loop-k.invariant.added c.in-Some.ensures c.other_than_15.ensures) in
+    let (permits, copies) = added_small c.loop-k.invariant.added c.args.self.now.bytes.ledger (omega arith) c.in-Some.ensures c.other_than_15.ensures in
     omega arith
 
 pub overflow_add-sums-in-Some : goal.overflow_add-sums-in-Some
 overflow_add-sums-in-Some c =
-    let few = rows_most _ c.args.self.now.bytes.ledger in
-    let (permits, copies) = added_few (added_line c.loop-k.invariant.added c.in-Some.ensures c.other_than_15.ensures) in
+    let (permits, copies) = added_small c.loop-k.invariant.added c.args.self.now.bytes.ledger (omega arith) c.in-Some.ensures c.other_than_15.ensures in
     omega arith
 
 pub overflow_add-len : goal.overflow_add-len

@@ -2,7 +2,7 @@
 -- Assumes nothing.
 use Rattle.std.proofs.Common.{◌≡◌, ◌<◌, refl, ◌∙◌, arith}
 use Rattle.formats.specs.Head.{rows_of}
-use Rattle.closing_sheet.proofs.sheet.Laws.{rows_most, added_start, added_none, added_line, added_few, added_all, written_start, written_none, line_fits, written_line, written_all}
+use Rattle.closing_sheet.proofs.sheet.Laws.{added_start, added_none, added_line, added_small, added_all, written_start, written_none, line_fits, written_line, written_all}
 use Rattle.closing_sheet.proofs.sheet.Sheet.write_rows.Goals as goal
 use Rattle.closing_sheet.proofs.sheet.Sheet.write_rows.Goals.{in-Some, in_default}
 
@@ -16,14 +16,12 @@ loop-k-init c =
 
 pub overflow_add-sums : goal.overflow_add-sums
 overflow_add-sums c =
-    let few = rows_most _ c.args.self.now.bytes.ledger in
-    let (permits, copies) = added_few (added_line c.loop-k.invariant.added c.in-Some.ensures c.other_than_15.ensures) in
+    let (permits, copies) = added_small c.loop-k.invariant.added c.args.self.now.bytes.ledger (omega arith) c.in-Some.ensures c.other_than_15.ensures in
     omega arith
 
 pub overflow_add-sums-in-Some : goal.overflow_add-sums-in-Some
 overflow_add-sums-in-Some c =
-    let few = rows_most _ c.args.self.now.bytes.ledger in
-    let (permits, copies) = added_few (added_line c.loop-k.invariant.added c.in-Some.ensures c.other_than_15.ensures) in
+    let (permits, copies) = added_small c.loop-k.invariant.added c.args.self.now.bytes.ledger (omega arith) c.in-Some.ensures c.other_than_15.ensures in
     omega arith
 
 pub write-requires : goal.write-requires
