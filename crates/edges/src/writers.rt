@@ -14,6 +14,7 @@ pub type Numbers = [u64; 8];
 pub fn numbers_of(case: &[u8]) -> Numbers
     ensures { NumbersOf case.now result }
 {
+    // Of `array::from_fn` nothing about the numbers could be proved.
     let mut numbers = [0; 8];
     for i in 0..8 {
         numbers[i] = field::read_at(case, 8 * i + 1, 8);

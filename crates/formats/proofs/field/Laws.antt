@@ -19,7 +19,7 @@ use Rattle.formats.specs.Bytes.{Bytes}
 use Rattle.formats.specs.Part.{part}
 use Rattle.std.specs.Int.{w64, to_be_bytes, from_be_bytes, swap_bytes}
 use Rattle.formats.specs.Field.{number, bytes_of}
-use Rattle.formats.proofs.Bytes.{bytes}
+use Rattle.formats.proofs.Bytes.{bytes, field}
 use Rattle.formats.proofs.Cells.{of_cells}
 use Rattle.formats.proofs.Part.{part_length}
 
@@ -203,6 +203,10 @@ twice l size byte =
 -- eight bytes are those of the number that they make
 pub bytes_number : (l : List ℕ) → length l ≡ 8 → Bytes l → bytes_of 8 (number l) ≡ l
 bytes_number l size byte = ap (bytes_of 8) (sym (little_swapped l size byte)) ∙ twice l size byte
+
+-- a field of eight bytes, in the two orders
+pub swapped_bytes : (x : ℕ) → bytes_of 8 (little (bytes_of 8 (little (bytes_of 8 x)))) ≡ bytes_of 8 x
+swapped_bytes x = twice (bytes_of 8 x) (length_bytes_of 8 x) (bytes (field 8 x))
 
 -- the library's other order of a number's bytes
 pub swapped : (x : ℕ) → swap_bytes w64 x ≡ little (bytes_of 8 x)
