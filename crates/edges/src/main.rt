@@ -102,7 +102,7 @@ fn answer(case: &[u8; 32100], n: usize)
     requires { n ≤ 32100 }
 {
     let code = table::byte(case, 0);
-    let start = 1 + 8 * (code / 16) as usize;
+    let start = 1 + 8 * usize::from(code / 16);
     if n < start {
         print::unknown();
     } else {

@@ -29,7 +29,7 @@ pub fn answer(found: Result<(), Refusal>) {
 pub fn bytes(s: &[u8]) {
     io::write_all(1, b" [");
     for x in s {
-        io::print_hex(1, *x as u64, 2);
+        io::print_hex(1, u64::from(*x), 2);
     }
     io::write_all(1, b"]");
 }

@@ -27,7 +27,7 @@ pub fn show(code: u8, v: Numbers, case: &[u8], part: &[u8]) {
         0x06 => print::number(field::read(part)),
         0x07 => stream(Pair::Picture, part),
         0x11 => print::number(number::len(v[0]) as u64),
-        0x12 => print::number(half::is_flagged(part, ContentId(v[0])) as u64),
+        0x12 => print::number(u64::from(half::is_flagged(part, ContentId(v[0])))),
         0x13 => print::number(text::len(v[0]) as u64),
         0x21 => heads(v[0], table::part(case, 17, v[1] as usize)),
         0x22 => entry(
@@ -61,9 +61,9 @@ fn written(code: u8, part: &[u8]) {
 
 fn fields(part: &[u8]) {
     print::number(half::key(part));
-    print::number(half::flag(part) as u64);
+    print::number(u64::from(half::flag(part)));
     print::number(half::content_id(part).0);
-    print::number(half::usable(part) as u64);
+    print::number(u64::from(half::usable(part)));
     print::number(half::usable_id(part).map_or(0, |id| id.0));
     print::number(title::cci(part));
     print::number(rule::trigger(part));

@@ -27,7 +27,7 @@ fn top_bit(x: u8) -> bool
 fn ten_bits(high: u8, low: u8) -> u64
     ensures { result ≡ high % 4 * 256 + low }
 {
-    (((high as u64) & 3) << 8) | (low as u64)
+    ((u64::from(high) & 3) << 8) | u64::from(low)
 }
 
 pub fn key(half: &[u8]) -> u64
@@ -100,7 +100,7 @@ pub fn write(half: &mut [u8], first: u8, key: u64, content: ContentId)
         return;
     }
     let id = content.0;
-    field::write(&mut half[0..8], ((first as u64) << 56) | (key & KEY_BITS));
+    field::write(&mut half[0..8], (u64::from(first) << 56) | (key & KEY_BITS));
     field::write(&mut half[8..16], FLAG | (id & ID_BITS));
 }
 

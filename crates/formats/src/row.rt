@@ -33,10 +33,10 @@ fn facts(row: &[u8]) -> Facts
     ensures { result ≡ facts_of row.now }
 {
     Facts {
-        cci: row[1] as u64,
-        trigger: row[2] as u64,
-        rights: row[3] as u64,
-        permits: row[4] as u64,
+        cci: u64::from(row[1]),
+        trigger: u64::from(row[2]),
+        rights: u64::from(row[3]),
+        permits: u64::from(row[4]),
         title_key: field::read_at(row, 8, 8) >> 8,
         sti_key: field::read_at(row, 16, 8) >> 8,
     }
@@ -97,7 +97,7 @@ pub fn write_plain(row: &mut [u8], state: u8)
     if row.len() != 24 {
         return;
     }
-    field::write(&mut row[0..8], (state as u64) << 56);
+    field::write(&mut row[0..8], u64::from(state) << 56);
     field::write(&mut row[8..16], 0);
     field::write(&mut row[16..24], 0);
 }

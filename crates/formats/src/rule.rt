@@ -9,19 +9,19 @@ use crate::{field, half, table};
 pub fn trigger(rule: &[u8]) -> u64
     ensures { result ≡ trigger_of rule.now }
 {
-    (table::byte(rule, 16) >> 7) as u64
+    u64::from(table::byte(rule, 16) >> 7)
 }
 
 pub fn rights(rule: &[u8]) -> u64
     ensures { result ≡ rights_of rule.now }
 {
-    (table::byte(rule, 17) >> 4) as u64
+    u64::from(table::byte(rule, 17) >> 4)
 }
 
 pub fn permits(rule: &[u8]) -> u64
     ensures { result ≡ permits_of rule.now }
 {
-    (table::byte(rule, 17) & 0x0f) as u64
+    u64::from(table::byte(rule, 17) & 0x0f)
 }
 
 // C_HASH, in bytes 18 to 25.

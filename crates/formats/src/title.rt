@@ -10,7 +10,7 @@ use crate::{half, table};
 pub fn cci(title: &[u8]) -> u64
     ensures { result ≡ cci_of title.now }
 {
-    (table::byte(title, 0) & 3) as u64
+    u64::from(table::byte(title, 0) & 3)
 }
 
 // Writes a title half, usable from then on.

@@ -47,7 +47,7 @@ pub fn format_ledger(ledger: &mut [u8], rows: u64, application: u16) -> Result<(
     if ledger.len() as u64 != 24 * (rows + 1) {
         return Err(Refusal::Ledger);
     }
-    field::write(&mut ledger[0..2], application as u64);
+    field::write(&mut ledger[0..2], u64::from(application));
     field::write(&mut ledger[2..4], rows);
     ledger[4..].fill(0);
     Ok(())
@@ -76,7 +76,7 @@ pub fn format_card(
         rules,
         head::rules_identifier(pair),
         0x11,
-        application as u64,
+        u64::from(application),
         32,
         0x02,
     );

@@ -37,7 +37,8 @@ returns c =
     let a = c.args in
     let h = a.half.now in
     let id = a.content.0 in
-    let w = wrote_field 8 (bit_or ((a.first * 2 ^ 56) % 2 ^ 64) (bit_and a.key (2 ^ 56 - 1))) (wrote_start 0 h (omega arith)) (omega arith) c.write.ensures in
+    let top = λ (n : ℕ). bit_or ((n * 2 ^ 56) % 2 ^ 64) (bit_and a.key (2 ^ 56 - 1)) in
+    let w = wrote_field 8 (top c.from.result) (wrote_start 0 h (omega arith)) (omega arith) c.write.ensures in
     (wrote_field 8 (bit_or (2 ^ 63) (bit_and id 1023)) w (omega arith) c.write-2.ensures).is
-    ∙ ap₂ (λ (y z : List ℕ). put h 0 (y ++ z)) (front a.first a.key (omega arith)) (ap (bytes_of 8) (mark id) ∙ marked id)
+    ∙ ap₂ (λ (y z : List ℕ). put h 0 (y ++ z)) (ap (λ (n : ℕ). bytes_of 8 (top n)) c.from.ensures ∙ front a.first a.key (omega arith)) (ap (bytes_of 8) (mark id) ∙ marked id)
     ∙ sym (changed_half_lem (put h 0 (half_bytes a.first a.key id)) h (omega arith))

@@ -16,5 +16,5 @@ returns c =
     record {
       answer = e;
       titles_formatted = rw (titles, c.titles_identifier.ensures) at c.fresh_table.ensures ∙ changed _ _ e refl;
-      rules_formatted = rw (rules, c.rules_identifier.ensures) at c.fresh_table-2.ensures ∙ changed _ _ e refl;
+      rules_formatted = rw (rules, c.rules_identifier.ensures, c.from.ensures) at c.fresh_table-2.ensures ∙ changed _ _ e refl;
     }

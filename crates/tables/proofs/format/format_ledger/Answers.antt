@@ -23,7 +23,7 @@ returns-clause-ledger_formatted c =
     let few = (numbered_range a.rows e).1 in
     let size : length before ≡ 24 * (a.rows + 1) = omega arith in
     let done = holds 4 _ _ e (holds 7 _ _ (eq-eqb _ _ size) end) in
-    let w = wrote_field 2 a.application (wrote_start 0 before (omega arith)) (omega arith) c.write.ensures in
+    let w = wrote_field 2 a.application (wrote_start 0 before (omega arith)) (omega arith) (rw c.from.ensures at c.write.ensures) in
     let v = wrote_field 2 a.rows w (omega arith) c.write-2.ensures in
     let n : length before - 4 ≡ 20 + 24 * a.rows = omega arith in
     cleared_behind v (c.fill.ensures.after (λ y e. e)) ∙ rw n (changed _ _ done refl)
