@@ -1,4 +1,4 @@
-// Why a call, a reader or a writer refuses, by the paper's numbers. What is done answers 0.
+// Why a call, a reader or a writer refuses, by the paper's numbers.
 ghost use Rattle.std.specs.Prelude.{◌≡◌};
 ghost use Rattle.formats.specs.Refusal.{number_of, answer_number};
 

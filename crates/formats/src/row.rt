@@ -6,7 +6,7 @@ ghost use Rattle.formats.specs.Row.{state_answer, facts_of, state_of, here_row, 
 use crate::facts::Facts;
 use crate::{facts, field};
 
-#[derive(Clone, Copy)]
+#[derive(Clone, Copy, PartialEq, Eq)]
 pub enum RowState {
     Empty,
     // The title lives in the ledger, with these facts.
@@ -43,6 +43,7 @@ fn facts(row: &[u8]) -> Facts
 }
 
 #[tactic(auto, unfolding(crate::specs::Row::state_of))]
+// Left as a call, it makes each call on a row take longer.
 #[inline]
 pub fn state(row: &[u8]) -> RowState
     ensures { state_answer result ≡ state_answer (state_of row.now) }

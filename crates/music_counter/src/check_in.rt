@@ -20,7 +20,7 @@ fn apply(ledger: &mut [u8], titles: &mut [u8], entry: EntryNumber, f1: u64)
         ≡ effect (CheckIn entry f1) (buffers_of ledger.old titles.old rules) }
 {
     let content = half::content_id(table::slot::<16>(titles, entry.0));
-    let facts = ledger::here_facts(ledger, content);
+    let facts = ledger::facts_here(ledger, content);
     crate::set_permits(ledger, content, count::one_more(facts.permits));
     crate::wipe_title(titles, entry, f1);
 }

@@ -18,7 +18,7 @@ fn apply(ledger: &mut [u8], titles: &mut [u8], content: ContentId, entry: EntryN
     ensures { (rules : List ℕ) → buffers_of ledger.new titles.new rules
         ≡ effect (CheckOut content entry) (buffers_of ledger.old titles.old rules) }
 {
-    let facts = ledger::here_facts(ledger, content);
+    let facts = ledger::facts_here(ledger, content);
     crate::set_permits(ledger, content, count::one_less(facts.permits));
     crate::write_title(titles, entry, facts.cci, facts.title_key, content);
 }

@@ -25,7 +25,7 @@ fn apply(
     ensures { buffers_of ledger.new titles.new rules.new
         ≡ effect (MoveIn content entry hash) (buffers_of ledger.old titles.old rules.old) }
 {
-    let facts = count::after_move(ledger::here_facts(ledger, content));
+    let facts = count::after_move(ledger::facts_here(ledger, content));
     crate::put_on_card(ledger, titles, rules, content, entry, facts, hash);
 }
 

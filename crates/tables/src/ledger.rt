@@ -22,11 +22,19 @@ pub fn state(ledger: &[u8], content: ContentId) -> RowState
 
 // The facts of a row that is here; zeros of any other.
 #[inline]
-pub fn here_facts(ledger: &[u8], content: ContentId) -> Facts
-    ensures { result ≡ here_facts (state_in ledger.now content.0) }
+pub fn here_facts(state: RowState) -> Facts
+    ensures { result ≡ here_facts state }
 {
-    match state(ledger, content) {
+    match state {
         RowState::Here(facts) => facts,
         _ => Facts::default(),
     }
+}
+
+// The same, of the row of a title.
+#[inline]
+pub fn facts_here(ledger: &[u8], content: ContentId) -> Facts
+    ensures { result ≡ here_facts (state_in ledger.now content.0) }
+{
+    here_facts(state(ledger, content))
 }

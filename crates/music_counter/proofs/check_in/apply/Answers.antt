@@ -9,5 +9,5 @@ pub returns : goal.returns
 returns c rules =
     let a = c.args in
     checked_in_lem a.ledger.now a.titles.now rules a.entry a.f1 c.content_id-content.result.0 (c.content_id-content.ensures ∙ ap id_of c.slot.ensures)
-    c.here_facts-facts.ensures
+    c.facts_here-facts.ensures
     c.one_more.ensures c.set_permits.ensures c.wipe_title.ensures

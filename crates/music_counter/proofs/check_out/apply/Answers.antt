@@ -7,5 +7,5 @@ pub returns : goal.returns
 returns c rules =
     let a = c.args in
     checked_out_lem a.ledger.now a.titles.now rules a.content a.entry
-    c.here_facts-facts.ensures
+    c.facts_here-facts.ensures
     c.one_less.ensures c.set_permits.ensures c.write_title.ensures

@@ -9,5 +9,5 @@ pub returns : goal.returns
 returns c =
     let a = c.args in
     moved_in a.ledger.now a.titles.now a.rules.now a.content a.entry a.hash
-    (c.after_move-facts.ensures ∙ ap after_move c.here_facts.ensures)
+    (c.after_move-facts.ensures ∙ ap after_move c.facts_here.ensures)
     c.put_on_card.ensures

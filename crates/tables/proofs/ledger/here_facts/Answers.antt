@@ -5,7 +5,6 @@ use Rattle.formats.specs.declared.facts.Facts.{Facts}
 use Rattle.formats.specs.declared.row.RowState.{RowState}
 use Rattle.formats.specs.declared.row.RowState.TheVariants.{Empty, Here, Away, Gone, NoState}
 use Rattle.formats.proofs.facts.Laws.{facts_same}
-use Rattle.formats.proofs.row.Laws.{same_state}
 use Rattle.calls.specs.Buffers.{here_facts, no_facts}
 use Rattle.tables.proofs.ledger.here_facts.Goals as goal
 
@@ -18,11 +17,10 @@ not_here Gone other = refl
 not_here NoState other = refl
 
 pub returns-in-Here : goal.returns-in-Here
-returns-in-Here c = ap here_facts (sym c.in-Here.is ∙ same_state c.state.ensures)
+returns-in-Here c = ap here_facts (sym c.in-Here.is)
 
 pub returns-in_default : goal.returns-in_default
 returns-in_default c =
     let (cci, (trigger, (rights, (permits, (title_key, sti_key))))) = c.default.ensures in
     facts_same cci trigger rights permits title_key sti_key
-    ∙ not_here c.state.result c.in_default.not-Here
-    ∙ ap here_facts (same_state c.state.ensures)
+    ∙ not_here c.args.state c.in_default.not-Here
