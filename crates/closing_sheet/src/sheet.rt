@@ -166,7 +166,7 @@ impl Sheet<'_> {
         }
     }
 
-    // The line of a row that is not empty. In a function of its own it takes twice its time, away from what is known of the heads.
+    // The line of a row that is not empty. Inline: behind a call it takes twice its time, away from what is known of the heads.
     #[inline(always)]
     fn printed(&self, content: ContentId) -> Option<Line>
         ensures { result ≡ printed (lent self.now.shop) content.0 }

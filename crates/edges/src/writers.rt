@@ -35,7 +35,8 @@ fn facts(v: Numbers) -> Facts
     }
 }
 
-// Writes to the part; a case that only reads leaves it as it is.
+// Writes to the part; a case that only reads leaves it as it is. The codes stay numbers: they are the program's input, and `leaves`
+// says of each what it does.
 #[tactic(auto, unfolding(crate::specs::Cases::leaves))]
 pub fn write(code: u8, v: Numbers, part: &mut [u8])
     ensures { part.new ≡ leaves code v part.old }

@@ -8,6 +8,7 @@ use crate::table;
 pub fn low_byte(x: u64) -> u8
     ensures { result ≡ x % 256 }
 {
+    // `as` stays where bits are cut off, or where a number becomes an index: the library has no From for either.
     (x & 0xff) as u8
 }
 

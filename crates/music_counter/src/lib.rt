@@ -25,6 +25,9 @@ pub mod record;
 pub mod register;
 pub mod serve;
 
+// Ledger, titles and rules stay three parameters of what writes them: C lends the rule table read-only to check-out and check-in, and
+// `serve::perform` hands all seven calls the same three.
+
 // The seven writers stay apart, where one that takes the writer of the slot as a closure was proved too: each call would have to turn
 // its closure's clause into the equation that stands here once.
 

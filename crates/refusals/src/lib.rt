@@ -1,4 +1,4 @@
-// Which number each of the seven calls answers: its refusal conditions, tested in stages and in the paper's order. Arguments
+// What each of the seven calls is refused with: its refusal conditions, tested in stages and in the paper's order. Arguments
 // first, then the heads, then the state. Nothing is written here.
 #![tactic(auto)]
 
@@ -22,7 +22,8 @@ pub mod move_out;
 pub mod record;
 pub mod register;
 
-// What a call that names an entry tests before it looks there: 5, then 7, 8 and 9.
+// What a call that names an entry tests before it looks there: 5, then 7, 8 and 9. Inline, as the next: behind a call the compiler
+// does not know the lengths that the heads fix.
 #[tactic(auto, unfolding(calls::specs::Refusal::first))]
 #[inline]
 fn before_entry(pair: Pair, shop: Shop, entry: EntryNumber) -> Result<(), Refusal>

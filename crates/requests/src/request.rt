@@ -89,7 +89,7 @@ impl Argument {
 }
 
 // A request's kind, and the values of its arguments in their order with zeros after them. The kind is its number, as in bytes
-// and in C: an enum of the seven would say again what `Request` says.
+// and in C: the functions that take one take any number, and an enum of seven would ask more of their callers.
 #[derive(Clone, Copy, Debug, PartialEq, Eq)]
 pub struct Numbers {
     pub kind: u64,

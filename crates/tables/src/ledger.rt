@@ -7,7 +7,8 @@ use formats::facts::{ContentId, Facts};
 use formats::row::RowState;
 use formats::{head, row, table};
 
-// The state of a row, read from the part of the ledger that it occupies. Row 0 and rows above R are in none.
+// The state of a row, read from the part of the ledger that it occupies. Row 0 and rows above R are in none. Inline, as what follows:
+// a caller that has tested the heads need not test the row's place again.
 #[tactic(auto, unfolding(calls::specs::Buffers::state_in))]
 #[inline]
 pub fn state(ledger: &[u8], content: ContentId) -> RowState
