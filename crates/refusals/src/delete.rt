@@ -15,31 +15,28 @@ use formats::row::RowState;
 use tables::ledger;
 use tables::shop::Shop;
 
+// Of a copy the row is not looked at, and only the title half is to be wiped. One test for 16 at the end: with one in each arm the
+// compiler carries the answer as a flag and a number.
 #[tactic(auto, unfolding(calls::specs::Refusal::first))]
-// Of a copy the row is not looked at, and only the title half is to be wiped.
 fn state(pair: Pair, shop: Shop, entry: EntryNumber, fillers: Fillers) -> Result<(), Refusal>
     ensures { answer_number result ≡ first (state_conditions pair (Delete entry fillers) (lent shop.entry)) }
 {
-    let kind = shop.card.kind(entry);
-    if kind != EntryKind::Full {
-        if kind != EntryKind::Copy {
-            return Err(Refusal::KindOfEntry);
+    let leaves_key = match shop.card.kind(entry) {
+        EntryKind::Copy => shop.card.leaves_title_key(entry, fillers.f1),
+        EntryKind::Full => {
+            let RowState::Away = ledger::state(shop.ledger, shop.card.content(entry)) else {
+                return Err(Refusal::StateOfRow);
+            };
+            shop.card.leaves_title_key(entry, fillers.f1)
+                || shop.card.refuses_f2(pair, entry, fillers.f2)
         }
-        if shop.card.leaves_title_key(entry, fillers.f1) {
-            return Err(Refusal::Filler);
-        }
-        return Ok(());
-    }
-    let RowState::Away = ledger::state(shop.ledger, shop.card.content(entry)) else {
-        return Err(Refusal::StateOfRow);
+        _ => return Err(Refusal::KindOfEntry),
     };
-    if shop.card.leaves_title_key(entry, fillers.f1) {
-        return Err(Refusal::Filler);
+    if leaves_key {
+        Err(Refusal::Filler)
+    } else {
+        Ok(())
     }
-    if shop.card.refuses_f2(pair, entry, fillers.f2) {
-        return Err(Refusal::Filler);
-    }
-    Ok(())
 }
 
 pub fn refusal(pair: Pair, shop: Shop, entry: EntryNumber, fillers: Fillers) -> Result<(), Refusal>

@@ -17,8 +17,8 @@ use formats::row::RowState;
 use tables::shop::Shop;
 use tables::{copies, ledger};
 
-#[tactic(auto, unfolding(calls::specs::Refusal::first))]
 // The card is searched for a copy last, when nothing else refuses.
+#[tactic(auto, unfolding(calls::specs::Refusal::first))]
 fn state(shop: Shop, content: ContentId, entry: EntryNumber) -> Result<(), Refusal>
     ensures { (pair : Pair) (hash : ℕ) → answer_number result
         ≡ first (state_conditions pair (MoveIn content entry hash) (lent shop.entry)) }
