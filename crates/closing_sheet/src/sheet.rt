@@ -1,5 +1,5 @@
 // The sheet as text, in a buffer that the caller lends.
-ghost use Rattle.std.specs.Prelude.{◌≡◌, ◌+◌, ◌*◌, ◌≤◌, length, leb, get_or};
+ghost use Rattle.std.specs.Prelude.{◌≡◌, ◌+◌, ◌*◌, ◌^◌, ◌<◌, ◌≤◌, length, leb, get_or};
 ghost use Rattle.formats.specs.Part.{put};
 ghost use Rattle.formats.specs.Head.{LedgerHead, rows_of};
 ghost use Rattle.formats.specs.Refusal.{answer_of};
@@ -41,6 +41,17 @@ pub struct Sums {
 }
 
 impl Sums {
+    // Adds what a line adds.
+    fn add(&mut self, line: Line)
+        requires permits { self.old.permits + other_than_15 line.permits < 2 ^ 64 }
+        requires copies { self.old.copies + line.copies < 2 ^ 64 }
+        ensures permits { self.new.permits ≡ self.old.permits + other_than_15 line.permits }
+        ensures copies { self.new.copies ≡ self.old.copies + line.copies }
+    {
+        self.permits += other_than_15(line.permits);
+        self.copies += line.copies;
+    }
+
     // How many bytes the last line has.
     fn len(self) -> usize
         ensures text_length { result ≡ length (total_line self.permits self.copies) }
@@ -186,8 +197,7 @@ impl Sheet<'_> {
         let mut len = 0;
         for k in 0..head::rows(self.shop.ledger) {
             if let Some(line) = self.printed(ContentId(k + 1)) {
-                sums.permits += other_than_15(line.permits);
-                sums.copies += line.copies;
+                sums.add(line);
                 len += line.len();
             }
         }
@@ -219,8 +229,7 @@ impl Sheet<'_> {
         let mut sums = Sums::default();
         for k in 0..head::rows(self.shop.ledger) {
             if let Some(line) = self.printed(ContentId(k + 1)) {
-                sums.permits += other_than_15(line.permits);
-                sums.copies += line.copies;
+                sums.add(line);
                 line.write(text);
             }
         }

@@ -36,7 +36,7 @@ fn rules_front(pair: Pair) -> u64
     }
 }
 
-// The identifier of a title table, which is the front of that word.
+// The identifier of a title table: the front of its first word.
 pub fn titles_identifier(pair: Pair) -> u64
     ensures { result ≡ titles_identifier pair }
 {

@@ -9,6 +9,7 @@ ghost use Rattle.requests.specs.Request.{remainder_of, writing_request, request_
 ghost use Rattle.requests.specs.Values.{Holds, arguments_values, arguments_answer};
 
 use crate::number;
+use Argument::{Any, Cci, Content, Entry, Key, Permits, Rights, Trigger};
 use formats::facts;
 use formats::facts::{ContentId, EntryNumber, Facts, Fillers};
 use formats::refusal::Refusal;
@@ -118,44 +119,13 @@ fn schema(kind: u64) -> &'static [Argument]
     ensures { result.now ≡ schema kind }
 {
     match kind {
-        1 => &[
-            Argument::Content,
-            Argument::Cci,
-            Argument::Trigger,
-            Argument::Rights,
-            Argument::Permits,
-            Argument::Key,
-            Argument::Key,
-        ],
-        2 => &[
-            Argument::Content,
-            Argument::Entry,
-            Argument::Cci,
-            Argument::Trigger,
-            Argument::Rights,
-            Argument::Permits,
-            Argument::Key,
-            Argument::Key,
-            Argument::Any,
-        ],
-        3 => &[Argument::Content, Argument::Entry],
-        4 => &[Argument::Entry, Argument::Any],
-        5 => &[
-            Argument::Entry,
-            Argument::Any,
-            Argument::Any,
-            Argument::Any,
-            Argument::Any,
-            Argument::Any,
-        ],
-        6 => &[Argument::Content, Argument::Entry, Argument::Any],
-        7 => &[
-            Argument::Entry,
-            Argument::Any,
-            Argument::Any,
-            Argument::Any,
-            Argument::Any,
-        ],
+        1 => &[Content, Cci, Trigger, Rights, Permits, Key, Key],
+        2 => &[Content, Entry, Cci, Trigger, Rights, Permits, Key, Key, Any],
+        3 => &[Content, Entry],
+        4 => &[Entry, Any],
+        5 => &[Entry, Any, Any, Any, Any, Any],
+        6 => &[Content, Entry, Any],
+        7 => &[Entry, Any, Any, Any, Any],
         _ => &[],
     }
 }

@@ -171,19 +171,19 @@ module _ {b : Buffers} {n permits copies : ℕ} (s : Added b n permits copies) w
         copies_are = omega (arith, s.copies_are, c, total_next (copies_added b) n);
       }
 
-  pub added_line : {l : Line} {k : ℕ} → Some l ≡ printed b (n + 1) → k ≡ other_than_15 l.permits → Added b (n + 1) (permits + k) (copies + l.copies)
-  added_line e k =
+  pub added_line : {l : Line} → Some l ≡ printed b (n + 1) → Added b (n + 1) (permits + other_than_15 l.permits) (copies + l.copies)
+  added_line e =
       let (text, p, c) = line_adds b (n + 1) e in
       record {
-        permits_are = omega (arith, s.permits_are, p, k, total_next (permits_added b) n);
+        permits_are = omega (arith, s.permits_are, p, total_next (permits_added b) n);
         copies_are = omega (arith, s.copies_are, c, total_next (copies_added b) n);
       }
 
   -- neither sum is large, since a field of two bytes has the number of rows
-  pub added_small : {l : Line} {k : ℕ} → Bytes b.ledger → n < rows_of b.ledger → Some l ≡ printed b (n + 1) → k ≡ other_than_15 l.permits
-      → (permits + k ≤ 15 * 65535) × (copies + l.copies ≤ 999 * 65535)
-  added_small bytes h e k =
-      let after = added_line e k in
+  pub added_small : {l : Line} → Bytes b.ledger → n < rows_of b.ledger → Some l ≡ printed b (n + 1)
+      → (permits + other_than_15 l.permits < 2 ^ 64) × (copies + l.copies < 2 ^ 64)
+  added_small bytes h e =
+      let after = added_line e in
       let few = rows_most b.ledger bytes in
       let (p, c) = totals_most b (n + 1) in
       (omega (arith, after.permits_are), omega (arith, after.copies_are))

@@ -9,15 +9,10 @@ use Rattle.closing_sheet.proofs.sheet.Sheet.summary.Goals.{in-Some, in_default}
 pub loop-k-init : goal.loop-k-init
 loop-k-init c = record { added = rw (c.default-sums.ensures.0, c.default-sums.ensures.1) (added_start _); measured = measured_start _ }
 
-pub overflow_add-sums : goal.overflow_add-sums
-overflow_add-sums c =
-    let (permits, copies) = added_small c.loop-k.invariant.added c.args.self.now.bytes.ledger (omega arith) c.in-Some.ensures c.other_than_15.ensures in
-    omega arith
-
-pub overflow_add-sums-in-Some : goal.overflow_add-sums-in-Some
-overflow_add-sums-in-Some c =
-    let (permits, copies) = added_small c.loop-k.invariant.added c.args.self.now.bytes.ledger (omega arith) c.in-Some.ensures c.other_than_15.ensures in
-    omega arith
+pub add-requires : goal.add-requires
+add-requires c =
+    let (permits, copies) = added_small c.loop-k.invariant.added c.args.self.now.bytes.ledger (omega arith) c.in-Some.ensures in
+    record { permits = permits; copies = copies }
 
 pub overflow_add-len : goal.overflow_add-len
 overflow_add-len c = let few = rows_most _ c.args.self.now.bytes.ledger in omega (arith, c.loop-k.invariant.measured.short)
@@ -27,9 +22,9 @@ loop-k-preserved c =
     let i = c.loop-k.invariant in
     elim c.match-printed.branch [
       | in-Some w ↦
-          rw (w.sums-is, w.len-is)
+          rw (w.sums-is, w.add.ensures.permits, w.add.ensures.copies, w.len-is)
           (record {
-            added = added_line i.added w.in-Some.ensures w.other_than_15.ensures;
+            added = added_line i.added w.in-Some.ensures;
             measured = measured_line i.measured w.in-Some.ensures w.len-len.ensures.text_length w.len-len.ensures.at_most_105;
           })
       | in_default w ↦

@@ -14,15 +14,10 @@ loop-k-init c =
       name = refl;
     }
 
-pub overflow_add-sums : goal.overflow_add-sums
-overflow_add-sums c =
-    let (permits, copies) = added_small c.loop-k.invariant.added c.args.self.now.bytes.ledger (omega arith) c.in-Some.ensures c.other_than_15.ensures in
-    omega arith
-
-pub overflow_add-sums-in-Some : goal.overflow_add-sums-in-Some
-overflow_add-sums-in-Some c =
-    let (permits, copies) = added_small c.loop-k.invariant.added c.args.self.now.bytes.ledger (omega arith) c.in-Some.ensures c.other_than_15.ensures in
-    omega arith
+pub add-requires : goal.add-requires
+add-requires c =
+    let (permits, copies) = added_small c.loop-k.invariant.added c.args.self.now.bytes.ledger (omega arith) c.in-Some.ensures in
+    record { permits = permits; copies = copies }
 
 pub write-requires : goal.write-requires
 write-requires c = line_fits c.loop-k.invariant.written (omega arith) c.in-Some.ensures
@@ -34,9 +29,9 @@ loop-k-preserved c =
     elim c.match-printed.branch [
       | in-Some w ↦
           let e = w.write.ensures in
-          rw (w.sums-is, w.text-is)
+          rw (w.sums-is, w.add.ensures.permits, w.add.ensures.copies, w.text-is)
           (record {
-            added = added_line i.added w.in-Some.ensures w.other_than_15.ensures;
+            added = added_line i.added w.in-Some.ensures;
             written = written_line i.written more w.in-Some.ensures e.place e.written;
             name = e.name ∙ i.name;
           })
