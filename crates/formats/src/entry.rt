@@ -1,6 +1,6 @@
-// What the two halves of an entry are together.
+// An entry of a card, and what its two halves are together.
 ghost use Rattle.std.specs.Prelude.{◌≡◌};
-ghost use Rattle.formats.specs.Entry.{kind_answer, kind_of, entry_facts};
+ghost use Rattle.formats.specs.Entry.{kind_of, entry_facts};
 
 use crate::facts::Facts;
 use crate::{facts, half, rule, title};
@@ -17,31 +17,43 @@ pub enum EntryKind {
     Torn,
 }
 
-pub fn kind(title: &[u8], rule: &[u8]) -> EntryKind
-    ensures { kind_answer result ≡ kind_answer (kind_of title.now rule.now) }
-{
-    match (half::usable_id(title), half::usable_id(rule)) {
-        (None, None) => EntryKind::Free,
-        (Some(id), other) if id.0 <= facts::LAST_NUMBER && title::cci(title) != 1 => match other {
-            None => EntryKind::Copy,
-            Some(rule_id) if rule_id == id => EntryKind::Full,
-            Some(_) => EntryKind::Torn,
-        },
-        _ => EntryKind::Torn,
-    }
+// An entry: its title half and its rule half.
+#[derive(Clone, Copy)]
+pub struct Entry<'a> {
+    pub title: &'a [u8],
+    pub rule: &'a [u8],
 }
 
-// The facts that a full entry holds.
-#[tactic(auto, unfolding(crate::specs::Entry::entry_facts))]
-pub fn facts(title: &[u8], rule: &[u8]) -> Facts
-    ensures { result ≡ entry_facts title.now rule.now }
-{
-    Facts {
-        cci: title::cci(title),
-        trigger: rule::trigger(rule),
-        rights: rule::rights(rule),
-        permits: rule::permits(rule),
-        title_key: half::key(title),
-        sti_key: half::key(rule),
+impl Entry<'_> {
+    // What the two halves are together.
+    pub fn kind(self) -> EntryKind
+        ensures { result ≡ kind_of self.entry.title.now self.entry.rule.now }
+    {
+        match (half::usable_id(self.title), half::usable_id(self.rule)) {
+            (None, None) => EntryKind::Free,
+            (Some(id), other) if id.0 <= facts::LAST_NUMBER && title::cci(self.title) != 1 => {
+                match other {
+                    None => EntryKind::Copy,
+                    Some(rule_id) if rule_id == id => EntryKind::Full,
+                    Some(_) => EntryKind::Torn,
+                }
+            }
+            _ => EntryKind::Torn,
+        }
+    }
+
+    // The facts that a full entry holds.
+    #[tactic(auto, unfolding(crate::specs::Entry::entry_facts))]
+    pub fn facts(self) -> Facts
+        ensures { result ≡ entry_facts self.entry.title.now self.entry.rule.now }
+    {
+        Facts {
+            cci: title::cci(self.title),
+            trigger: rule::trigger(self.rule),
+            rights: rule::rights(self.rule),
+            permits: rule::permits(self.rule),
+            title_key: half::key(self.title),
+            sti_key: half::key(self.rule),
+        }
     }
 }

@@ -1,7 +1,7 @@
 // A row of the ledger: the 24 bytes of it that a title has. A part of another length is left as it is.
 ghost use Rattle.std.specs.Prelude.{◌≡◌, ◌+◌, ◌*◌, ◌%◌, ◌^◌, length};
 ghost use Rattle.formats.specs.Part.{replaced};
-ghost use Rattle.formats.specs.Row.{state_answer, facts_of, state_of, here_row, plain_row, with_permits};
+ghost use Rattle.formats.specs.Row.{facts_of, state_of, here_row, plain_row, with_permits};
 
 use crate::facts::Facts;
 use crate::{facts, field};
@@ -46,7 +46,7 @@ fn facts(row: &[u8]) -> Facts
 // Left as a call, it makes each call on a row take longer.
 #[inline]
 pub fn state(row: &[u8]) -> RowState
-    ensures { state_answer result ≡ state_answer (state_of row.now) }
+    ensures { result ≡ state_of row.now }
 {
     if row.len() != 24 {
         return RowState::NoState;
