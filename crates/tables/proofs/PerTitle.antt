@@ -1,7 +1,7 @@
 -- What a card has of each title: the title that an entry shows, and one more entry in the numbers of all titles.
 -- Assumes nothing.
 use Prim.Native.Nat.{ℕ, zero, suc, ◌+◌, ◌≤◌, ◌<◌}
-use mathlib.Core.Path.{◌≡◌, refl, sym, ap, ap₂, ◌∙◌}
+use mathlib.Core.Path.{◌≡◌, refl, sym, ap, ◌∙◌}
 use mathlib.Core.Logic.{◌≢◌}
 use mathlib.Core.List.{List}
 use mathlib.Core.Bool.{Bool, true, false, ◌&&◌, cond, true≢false}
@@ -16,11 +16,11 @@ use Rattle.std.specs.Prelude.{Option, Some, None}
 use Rattle.formats.specs.Half.{id_of, usable_of, usable_id}
 use Rattle.formats.specs.declared.facts.ContentId.{ContentId}
 use Rattle.formats.proofs.half.Laws.{without_id, with_id}
-use Rattle.formats.specs.Entry.{kind_of, kind_answer}
+use Rattle.formats.specs.Entry.{kind_of}
 use Rattle.formats.specs.declared.entry.EntryKind.{EntryKind}
 use Rattle.formats.specs.declared.entry.EntryKind.TheVariants.{Free, Copy, Full, Torn}
 use Rattle.formats.proofs.Tests.{refuted}
-use Rattle.formats.proofs.entry.Laws.{Sound, same_kind, of_copy, of_full}
+use Rattle.formats.proofs.entry.Laws.{Sound, of_copy, of_full}
 use Rattle.calls.specs.Buffers.{title_at, rule_at, copies, full_with, first_of, one, total, Within}
 use Rattle.calls.proofs.First.{first_before, first_here, first_not_yet}
 use Rattle.tables.specs.Copies.{copy_at}
@@ -28,67 +28,51 @@ use Rattle.tables.specs.ByTitle.{first_full, is_wanted, title_in, ForEach}
 
 -- THE TITLE THAT AN ENTRY SHOWS
 
-is_wanted_lem : (full : Bool) (k : EntryKind) → is_wanted full k ≡ true → k ≡ (cond full Full Copy)
-is_wanted_lem true Free e = absurd (true≢false (sym e))
-is_wanted_lem true Copy e = absurd (true≢false (sym e))
-is_wanted_lem true Full e = refl
-is_wanted_lem true Torn e = absurd (true≢false (sym e))
-is_wanted_lem false Free e = absurd (true≢false (sym e))
-is_wanted_lem false Copy e = refl
-is_wanted_lem false Full e = absurd (true≢false (sym e))
-is_wanted_lem false Torn e = absurd (true≢false (sym e))
-
-module _ (full : Bool) (t r : List ℕ) where
+module _ (t r : List ℕ) where
   -- what is wanted has a sound title half
-  sound : is_wanted full (kind_of t r) ≡ true → Sound t
-  sound e = by full (is_wanted_lem full (kind_of t r) e)
+  sound : (wanted : EntryKind) → is_wanted wanted (kind_of t r) ≡ true → Sound t
+  sound wanted e = by wanted (kind_of t r) refl e
     where
-      by : (x : Bool) → kind_of t r ≡ (cond x Full Copy) → Sound t
-      by true k = (of_full t r k).title_sound
-      by false k = (of_copy t r k).title_sound
-
-  title_shown : is_wanted full (kind_of t r) ≡ true → (id_of t ≡ title_in full t r) × Within 999 (id_of t)
-  title_shown e =
-      let s = sound e in
-      (sym (ap (λ (b : Bool). cond b (id_of t) 0) e), record { from = s.id_from; to = s.id_to })
-
-  nothing_shown : (is_wanted full (kind_of t r) ≡ true → ⊥) → 0 ≡ title_in full t r
-  nothing_shown h = sym (ap (λ (b : Bool). cond b (id_of t) 0) (refuted h))
+      by : (w k : EntryKind) → kind_of t r ≡ k → is_wanted w k ≡ true → Sound t
+      by Copy Copy is e = (of_copy t r is).title_sound
+      by Full Full is e = (of_full t r is).title_sound
+      by Free k is e = absurd (true≢false (sym e))
+      by Torn k is e = absurd (true≢false (sym e))
+      by Copy Free is e = absurd (true≢false (sym e))
+      by Copy Full is e = absurd (true≢false (sym e))
+      by Copy Torn is e = absurd (true≢false (sym e))
+      by Full Free is e = absurd (true≢false (sym e))
+      by Full Copy is e = absurd (true≢false (sym e))
+      by Full Torn is e = absurd (true≢false (sym e))
 
 -- by the steps of the code: s and q are the halves t and r
-module _ (full : Bool) {s t : List ℕ} (r : List ℕ) (title : s ≡ t) {found : Option ContentId} (is : found ≡ usable_id s) where
-  pub unusable : found ≡ None → 0 ≡ title_in full t r
+module _ (wanted : EntryKind) {s t : List ℕ} (r : List ℕ) (title : s ≡ t) {found : Option ContentId} (is : found ≡ usable_id s) where
+  pub unusable : found ≡ None → 0 ≡ title_in wanted t r
   unusable empty =
-      nothing_shown full t r (λ e. true≢false (sym (sound full t r e).usable ∙ ap usable_of (sym title) ∙ without_id s is empty))
+      sym (ap (λ (b : Bool). cond b (id_of t) 0)
+      (refuted (λ e. true≢false (sym (sound t r wanted e).usable ∙ ap usable_of (sym title) ∙ without_id s is empty))))
 
-  module _ {q : List ℕ} (rule : q ≡ r) (k : EntryKind) (kind : kind_answer k ≡ kind_answer (kind_of s q)) {x : Bool} (test : x ≡ is_wanted full k) where
-    wanted : x ≡ is_wanted full (kind_of t r)
-    wanted = test ∙ ap (is_wanted full) (same_kind kind ∙ ap₂ kind_of title rule)
-
-    pub shown : {id : ContentId} → found ≡ Some id → x ≡ true → (id.0 ≡ title_in full t r) × Within 999 id.0
-    shown {id} some e =
-        let (same, within) = title_shown full t r (sym wanted ∙ e) in
-        let i : id_of t ≡ id.0 = ap id_of (sym title) ∙ (with_id s is some).1 in
-        (sym i ∙ same, record { from = omega (arith, within.from); to = omega (arith, within.to) })
-
-    pub not_shown : x ≡ false → 0 ≡ title_in full t r
-    not_shown e = nothing_shown full t r (λ y. true≢false (sym y ∙ sym wanted ∙ e))
+  pub within : {id : ContentId} → found ≡ Some id → is_wanted wanted (kind_of t r) ≡ true → Within 999 id.0
+  within {id} some e =
+      let h = sound t r wanted e in
+      let i : id_of t ≡ id.0 = ap id_of (sym title) ∙ (with_id s is some).1 in
+      record { from = omega (arith, h.id_from); to = omega (arith, h.id_to) }
 
 -- so an entry is title c's where it shows c
-module _ (full : Bool) (t r : List ℕ) (c : ℕ) where
-  titles_own : title_in full t r ≡ c → c ≢ 0 → (is_wanted full (kind_of t r) && eqb (id_of t) c) ≡ true
-  titles_own = by (is_wanted full (kind_of t r))
+module _ (wanted : EntryKind) (t r : List ℕ) (c : ℕ) where
+  titles_own : title_in wanted t r ≡ c → c ≢ 0 → (is_wanted wanted (kind_of t r) && eqb (id_of t) c) ≡ true
+  titles_own = by (is_wanted wanted (kind_of t r))
     where
       by : (x : Bool) → (cond x (id_of t) 0) ≡ c → c ≢ 0 → (x && eqb (id_of t) c) ≡ true
       by true e some = eq-eqb (id_of t) c e
       by false e some = absurd (some (sym e))
 
   -- and only there. No entry is title 0's
-  not_titles : (title_in full t r ≡ c → c ≡ 0) → (is_wanted full (kind_of t r) && eqb (id_of t) c) ≡ false
-  not_titles = by (is_wanted full (kind_of t r)) refl
+  not_titles : (title_in wanted t r ≡ c → c ≡ 0) → (is_wanted wanted (kind_of t r) && eqb (id_of t) c) ≡ false
+  not_titles = by (is_wanted wanted (kind_of t r)) refl
     where
-      by : (x : Bool) → is_wanted full (kind_of t r) ≡ x → ((cond x (id_of t) 0) ≡ c → c ≡ 0) → (x && eqb (id_of t) c) ≡ false
-      by true w h = ne_eqb (id_of t) c (λ e. omega (arith, e, h e, (sound full t r w).id_from))
+      by : (x : Bool) → is_wanted wanted (kind_of t r) ≡ x → ((cond x (id_of t) 0) ≡ c → c ≡ 0) → (x && eqb (id_of t) c) ≡ false
+      by true w h = ne_eqb (id_of t) c (λ e. omega (arith, e, h e, (sound t r wanted w).id_from))
       by false w h = refl
 
 -- ONE ENTRY MORE
@@ -115,8 +99,8 @@ zeros c =
 
 -- what the first k entries have of each title
 module _ (titles rules : List ℕ) where
-  abbrev shown_at : Bool → ℕ → ℕ
-  shown_at full j = title_in full (title_at titles j) (rule_at rules j)
+  abbrev shown_at : EntryKind → ℕ → ℕ
+  shown_at wanted j = title_in wanted (title_at titles j) (rule_at rules j)
 
   -- copies
   pub record Tallied (k : ℕ) (counts : List ℕ) : Type 0 where
@@ -128,16 +112,16 @@ module _ (titles rules : List ℕ) where
   unfolding total
   tallied_start = record { few = omega arith; size = none_long; at = zeros }
 
-  module _ {k : ℕ} {counts : List ℕ} (s : Tallied k counts) (h : k < 999) {id : ℕ} (is : id ≡ shown_at false (k + 1)) where
-    shown_copy : id ≡ shown_at false (suc k)
-    shown_copy = is ∙ ap (shown_at false) (add-one k)
+  module _ {k : ℕ} {counts : List ℕ} (s : Tallied k counts) (h : k < 999) {id : ℕ} (is : id ≡ shown_at Copy (k + 1)) where
+    shown_copy : id ≡ shown_at Copy (suc k)
+    shown_copy = is ∙ ap (shown_at Copy) (add-one k)
 
     -- of another title
     same_copies : (c : ℕ) → (id ≡ c → c ≡ 0) → get_or counts c 0 ≡ total (k + 1) (λ j. one (copy_at c titles rules j))
     unfolding total
     same_copies c h =
         rw (add-one k)
-        (omega (arith, s.at c, ap one (not_titles false (title_at titles (suc k)) (rule_at rules (suc k)) c (λ e. h (shown_copy ∙ e)))))
+        (omega (arith, s.at c, ap one (not_titles Copy (title_at titles (suc k)) (rule_at rules (suc k)) c (λ e. h (shown_copy ∙ e)))))
 
     -- an entry that is no copy
     pub no_copy : id ≡ 0 → Tallied (k + 1) counts
@@ -153,7 +137,7 @@ module _ (titles rules : List ℕ) where
       unfolding total
       one_more_lem =
           rw (add-one k)
-          (omega (arith, s.at id, ap one (titles_own false (title_at titles (suc k)) (rule_at rules (suc k)) id (sym shown_copy) copy)))
+          (omega (arith, s.at id, ap one (titles_own Copy (title_at titles (suc k)) (rule_at rules (suc k)) id (sym shown_copy) copy)))
 
       -- a copy
       pub one_copy : Tallied (k + 1) (set counts id (get_or counts id 0 + 1))
@@ -189,9 +173,9 @@ module _ (titles rules : List ℕ) where
   unfolding first_of
   found_start = record { few = omega arith; size = none_long; at = zeros }
 
-  module _ {k : ℕ} {entries : List ℕ} (s : Found k entries) (h : k < 999) {id : ℕ} (is : id ≡ shown_at true (k + 1)) where
-    shown_full : id ≡ shown_at true (suc k)
-    shown_full = is ∙ ap (shown_at true) (add-one k)
+  module _ {k : ℕ} {entries : List ℕ} (s : Found k entries) (h : k < 999) {id : ℕ} (is : id ≡ shown_at Full (k + 1)) where
+    shown_full : id ≡ shown_at Full (suc k)
+    shown_full = is ∙ ap (shown_at Full) (add-one k)
 
     -- the first of a title that has one before it
     stays : (c : ℕ) → get_or entries c 0 ≢ 0 → get_or entries c 0 ≡ first_of (k + 1) (full_at c)
@@ -206,7 +190,7 @@ module _ (titles rules : List ℕ) where
               (z
               ∙ sym
               (first_not_yet (full_at c) k (sym (s.at c) ∙ z)
-              (not_titles true (title_at titles (suc k)) (rule_at rules (suc k)) c (λ e. h (shown_full ∙ e)))))
+              (not_titles Full (title_at titles (suc k)) (rule_at rules (suc k)) c (λ e. h (shown_full ∙ e)))))
           | no d ↦ stays c d
         ]
 
@@ -241,7 +225,7 @@ module _ (titles rules : List ℕ) where
                     ∙ rw (add-one k)
                     (sym
                     (first_here (full_at id) k (sym (s.at id) ∙ none)
-                    (titles_own true (title_at titles (suc k)) (rule_at rules (suc k)) id (sym shown_full) full))))
+                    (titles_own Full (title_at titles (suc k)) (rule_at rules (suc k)) id (sym shown_full) full))))
                 | no ne ↦ get_or-set_other entries id c (k + 1) 0 ne ∙ same_first c (λ e. absurd (ne (sym e)))
               ];
         }

@@ -1,9 +1,10 @@
 -- What a card has of each title: how many copies, and the first full entry.
-use Rattle.std.specs.Prelude.{ℕ, ◌≡◌, List, Bool, true, false, cond, Option, None, Some, length, get_or}
+use Rattle.std.specs.Prelude.{ℕ, ◌≡◌, List, Bool, false, ◌||◌, cond, Option, None, Some, length, get_or}
 use Rattle.formats.specs.declared.facts.ContentId.{ContentId}
 use Rattle.formats.specs.Half.{id_of}
 use Rattle.formats.specs.Entry.{kind_of}
 use Rattle.formats.specs.declared.entry.EntryKind.{EntryKind}
+use Rattle.formats.specs.declared.entry.EntryKind.TheVariants.{Free, Copy, Full, Torn}
 use Rattle.calls.specs.Buffers.{title_at, rule_at, is_copy, is_full, full_with, first_of}
 
 -- the first full entry with ID c; 0 where there is none
@@ -18,14 +19,20 @@ pub record ForEach (number : ℕ → ℕ) (places : List ℕ) : Type 0 where
 
 -- ONLY FOR THE CODE'S HELPERS
 
--- what is looked for: full entries, or copies
-abbrev pub is_wanted : Bool → EntryKind → Bool
-is_wanted true kind = is_full kind
-is_wanted false kind = is_copy kind
+-- the kinds of entries that show a title: copies and full entries
+abbrev pub shows_title : EntryKind → Bool
+shows_title kind = is_copy kind || is_full kind
 
--- the title whose full entry, or whose copy, an entry is; 0, which no title has, where it is none
-abbrev pub title_in : Bool → List ℕ → List ℕ → ℕ
-title_in full t r = cond (is_wanted full (kind_of t r)) (id_of t) 0
+-- whether an entry is of the kind that is looked for, one of these two
+abbrev pub is_wanted : EntryKind → EntryKind → Bool
+is_wanted Free kind = false
+is_wanted Copy kind = is_copy kind
+is_wanted Full kind = is_full kind
+is_wanted Torn kind = false
+
+-- the title whose copy, or whose full entry, an entry is; 0, which no title has, where it is none
+abbrev pub title_in : EntryKind → List ℕ → List ℕ → ℕ
+title_in wanted t r = cond (is_wanted wanted (kind_of t r)) (id_of t) 0
 
 -- the ID that was found, 0 where none was
 abbrev pub id_or_0 : Option ContentId → ℕ

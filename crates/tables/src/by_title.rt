@@ -1,32 +1,22 @@
 // What a card has of each title, found in one pass over its entries. Place c of an answer is title c's.
-ghost use Rattle.std.specs.Prelude.{◌≡◌, IfSome};
+ghost use Rattle.std.specs.Prelude.{◌≡◌, true, IfSome};
 ghost use Rattle.calls.specs.Buffers.{title_at, rule_at, copies, Within};
-ghost use Rattle.tables.specs.ByTitle.{is_wanted, id_or_0, title_in, first_full, ForEach};
+ghost use Rattle.tables.specs.ByTitle.{shows_title, id_or_0, title_in, first_full, ForEach};
 
 use crate::card::Card;
 use formats::entry::EntryKind;
 use formats::facts::{ContentId, EntryNumber};
-use formats::{entry, half};
+use formats::half;
 
-// Whether an entry is what is looked for: a full one, or a copy.
-fn is_wanted(full: bool, kind: EntryKind) -> bool
-    ensures { result ≡ is_wanted full kind }
-{
-    kind == if full {
-        EntryKind::Full
-    } else {
-        EntryKind::Copy
-    }
-}
-
-// The title whose full entry, or whose copy, an entry is. Most entries of a card have no usable title half.
-fn title_in(card: Card, entry: EntryNumber, full: bool) -> Option<ContentId>
-    ensures title { id_or_0 result ≡ title_in full (title_at card.entry.titles.now entry.0) (rule_at card.entry.rules.now entry.0) }
+// The title whose copy, or whose full entry, an entry is: the kind that is wanted. Most entries of a card have no usable title half.
+fn title_in(card: Card, number: EntryNumber, wanted: EntryKind) -> Option<ContentId>
+    requires { shows_title wanted ≡ true }
+    ensures title { id_or_0 result ≡ title_in wanted (title_at card.entry.titles.now number.0) (rule_at card.entry.rules.now number.0) }
     ensures numbered { IfSome result (λ id. Within 999 id.0) }
 {
-    let title = card.title_half(entry);
-    let id = half::usable_id(title)?;
-    if is_wanted(full, entry::kind(title, card.rule_half(entry))) {
+    let entry = card.entry(number);
+    let id = half::usable_id(entry.title)?;
+    if entry.kind() == wanted {
         Some(id)
     } else {
         None
@@ -39,7 +29,7 @@ pub fn tallies(card: Card) -> [u16; 1000]
 {
     let mut counts = [0u16; 1000];
     for k in 0..999 {
-        if let Some(id) = title_in(card, EntryNumber(k + 1), false) {
+        if let Some(id) = title_in(card, EntryNumber(k + 1), EntryKind::Copy) {
             counts[id.0 as usize] += 1;
         }
     }
@@ -53,7 +43,7 @@ pub fn full_entries(card: Card) -> [u16; 1000]
 {
     let mut entries = [0u16; 1000];
     for k in 0..999 {
-        if let Some(id) = title_in(card, EntryNumber(k + 1), true) {
+        if let Some(id) = title_in(card, EntryNumber(k + 1), EntryKind::Full) {
             if entries[id.0 as usize] == 0 {
                 entries[id.0 as usize] = (k + 1) as u16;
             }

@@ -2,15 +2,15 @@
 ghost use Rattle.std.specs.Prelude.{◌≡◌, ◌&&◌};
 ghost use Rattle.formats.specs.Half.{id_of};
 ghost use Rattle.formats.specs.Rule.{trigger_of, rights_of, hash_of};
-ghost use Rattle.formats.specs.Entry.{kind_answer, kind_of, entry_facts};
+ghost use Rattle.formats.specs.Entry.{kind_of, entry_facts};
 ghost use Rattle.calls.specs.Buffers.{title_at, rule_at};
 ghost use Rattle.calls.specs.Conditions.{leaves_key, looks_at_f2, may_not_move};
 
 use calls::count;
-use formats::entry::EntryKind;
+use formats::entry::{Entry, EntryKind};
 use formats::facts::{ContentId, EntryNumber, Facts};
 use formats::head::Pair;
-use formats::{entry, half, rule, table};
+use formats::{half, rule, table};
 
 #[derive(Clone, Copy)]
 pub struct Card<'a> {
@@ -31,12 +31,22 @@ impl<'a> Card<'a> {
         table::slot::<32>(self.rules, entry.0)
     }
 
+    // Both halves of an entry.
+    pub fn entry(self, entry: EntryNumber) -> Entry<'a>
+        ensures title { result.title.now ≡ title_at self.entry.titles.now entry.0 }
+        ensures rule { result.rule.now ≡ rule_at self.entry.rules.now entry.0 }
+    {
+        Entry {
+            title: self.title_half(entry),
+            rule: self.rule_half(entry),
+        }
+    }
+
     // What an entry is.
     pub fn kind(self, entry: EntryNumber) -> EntryKind
-        ensures { kind_answer result
-            ≡ kind_answer (kind_of (title_at self.entry.titles.now entry.0) (rule_at self.entry.rules.now entry.0)) }
+        ensures { result ≡ kind_of (title_at self.entry.titles.now entry.0) (rule_at self.entry.rules.now entry.0) }
     {
-        entry::kind(self.title_half(entry), self.rule_half(entry))
+        self.entry(entry).kind()
     }
 
     // The content ID in an entry's title half.
@@ -51,7 +61,7 @@ impl<'a> Card<'a> {
         ensures { result
             ≡ entry_facts (title_at self.entry.titles.now entry.0) (rule_at self.entry.rules.now entry.0) }
     {
-        entry::facts(self.title_half(entry), self.rule_half(entry))
+        self.entry(entry).facts()
     }
 
     // Whether a full entry may not move: its trigger is 1, or no move right is left. Both stand in its rule half.

@@ -5,20 +5,23 @@ ghost use Rattle.calls.specs.Buffers.{title_at, copy_of, copies};
 ghost use Rattle.tables.specs.Copies.{copy_at, may_hold, in_three, any_of_three};
 
 use crate::card::Card;
+use formats::entry::Entry;
 use formats::facts::{ContentId, EntryNumber};
 use formats::{half, title};
 
 // Whether an entry is a copy of a title. Flag and ID are tested first, since few entries of a card have them.
-pub fn is_copy_of(title: &[u8], rule: &[u8], content: ContentId) -> bool
-    ensures { result ≡ copy_of content.0 title.now rule.now }
+pub fn is_copy_of(entry: Entry, content: ContentId) -> bool
+    ensures { result ≡ copy_of content.0 entry.entry.title.now entry.entry.rule.now }
 {
-    half::is_flagged(title, content) && title::cci(title) != 1 && !half::usable(rule)
+    half::is_flagged(entry.title, content)
+        && title::cci(entry.title) != 1
+        && !half::usable(entry.rule)
 }
 
 fn is_copy_at(card: Card, entry: EntryNumber, content: ContentId) -> bool
     ensures { result ≡ copy_at content.0 card.entry.titles.now card.entry.rules.now entry.0 }
 {
-    is_copy_of(card.title_half(entry), card.rule_half(entry), content)
+    is_copy_of(card.entry(entry), content)
 }
 
 fn is_flagged_at(titles: &[u8], j: u64, content: ContentId) -> bool

@@ -1,6 +1,5 @@
 // The rows of a ledger, by their content ID.
 ghost use Rattle.std.specs.Prelude.{◌≡◌};
-ghost use Rattle.formats.specs.Row.{state_answer};
 ghost use Rattle.calls.specs.Buffers.{state_in, here_facts};
 
 use formats::facts::{ContentId, Facts};
@@ -12,7 +11,7 @@ use formats::{head, row, table};
 #[tactic(auto, unfolding(calls::specs::Buffers::state_in))]
 #[inline]
 pub fn state(ledger: &[u8], content: ContentId) -> RowState
-    ensures { state_answer result ≡ state_answer (state_in ledger.now content.0) }
+    ensures { result ≡ state_in ledger.now content.0 }
 {
     let id = content.0;
     if id < 1 || head::rows(ledger) < id {

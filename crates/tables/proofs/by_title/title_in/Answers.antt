@@ -1,21 +1,19 @@
--- `tables::by_title::title_in` meets its contract: nothing usable, what is looked for, or something else.
+-- `tables::by_title::title_in` meets its contract where no half is usable, and what it finds is a title's ID.
 -- Assumes nothing.
-use Rattle.calls.specs.Buffers.{rule_at}
-use Rattle.tables.proofs.PerTitle.{unusable, shown, not_shown}
+use Rattle.std.proofs.Common.{◌≡◌, true, arith}
+use Rattle.formats.specs.Entry.{kind_of}
+use Rattle.calls.specs.Buffers.{title_at, rule_at}
+use Rattle.tables.specs.ByTitle.{is_wanted}
+use Rattle.tables.proofs.PerTitle.{unusable, within}
 use Rattle.tables.proofs.by_title.title_in.Goals as goal
 
 pub returns-in_err-id-clause-title : goal.returns-in_err-id-clause-title
 returns-in_err-id-clause-title c =
-    rw c.from_residual.ensures (unusable c.args.full (rule_at c.args.card.rules.now c.args.entry.0) c.title_half-title.ensures c.usable_id.ensures c.in_err-id.was)
+    rw c.from_residual.ensures
+    (unusable c.args.wanted (rule_at c.args.card.rules.now c.args.number.0) c.entry-entry.ensures.title c.usable_id.ensures c.in_err-id.was)
 
-pub returns-then-is_wanted : goal.returns-then-is_wanted
-returns-then-is_wanted c =
-    let w =
-    shown c.args.full _ c.title_half-title.ensures c.usable_id.ensures c.rule_half.ensures c.kind.result c.kind.ensures
-    c.is_wanted.ensures c.in_ok-id.was c.if-is_wanted.true in
-    record { title = w.0; numbered = w.1 }
-
-pub returns-else-is_wanted-clause-title : goal.returns-else-is_wanted-clause-title
-returns-else-is_wanted-clause-title c =
-    not_shown c.args.full _ c.title_half-title.ensures c.usable_id.ensures c.rule_half.ensures c.kind.result c.kind.ensures
-    c.is_wanted.ensures c.if-is_wanted.false
+pub returns-then-eq-clause-numbered : goal.returns-then-eq-clause-numbered
+returns-then-eq-clause-numbered c =
+    let halves = c.entry-entry.ensures in
+    let same : is_wanted c.args.wanted (kind_of (title_at c.args.card.titles.now c.args.number.0) (rule_at c.args.card.rules.now c.args.number.0)) ≡ true = grind arith in
+    within c.args.wanted (rule_at c.args.card.rules.now c.args.number.0) halves.title c.usable_id.ensures c.in_ok-id.was same
