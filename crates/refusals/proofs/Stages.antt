@@ -11,9 +11,6 @@ use Rattle.std.specs.Result.{IsErrAnd}
 use Rattle.formats.specs.Refusal.{number_of, answer_number}
 use Rattle.formats.specs.declared.refusal.Refusal.{Refusal}
 use Rattle.formats.proofs.refusal.Laws.{some_number, handed_on}
-use Rattle.formats.specs.Row.{state_answer}
-use Rattle.formats.specs.declared.row.RowState.{RowState}
-use Rattle.formats.proofs.row.Laws.{same_state}
 use Rattle.requests.specs.declared.request.Request.{Request}
 use Rattle.requests.specs.declared.request.Request.TheVariants.{Register, Record, CheckOut, CheckIn, MoveOut, MoveIn, Delete}
 use Rattle.calls.specs.Buffers.{Buffers}
@@ -22,10 +19,6 @@ use Rattle.calls.specs.Conditions.{argument_conditions, head_conditions, state_c
 use Rattle.calls.specs.Perform.{refusal}
 use Rattle.calls.proofs.Limits.{argument_numbers}
 use Rattle.calls.proofs.Refusals.{refusing, both_refuse, first_stage, next_stage}
-
--- what was asked of a row's state as it was read
-pub of_row : {A : Type 0} {r : A} (is : RowState → A) {s s' : RowState} → r ≡ is s → state_answer s ≡ state_answer s' → r ≡ is s'
-of_row is e read = e ∙ ap is (same_state read)
 
 -- A CALL'S REFUSAL, stage by stage: its arguments, the heads of what it is lent, and what stands there
 

@@ -2,7 +2,6 @@
 -- Assumes nothing.
 use Rattle.std.proofs.Common.{ℕ, ◌≡◌, List, [], ◌∷◌, refl, arith}
 use Rattle.formats.specs.Head.{ledger_passes, ledger_answer}
-use Rattle.formats.proofs.row.Laws.{same_state}
 use Rattle.calls.specs.Refusal.{◌unless◌, first}
 use Rattle.calls.proofs.Refusals.{answers_last}
 use Rattle.refusals.proofs.Stages.{by_state, exit_arguments, exit_heads}
@@ -22,11 +21,9 @@ returns-in_err-check_ledger c pair titles rules =
 pub returns-in_default : goal.returns-in_default
 unfolding first
 returns-in_default c pair titles rules =
-    let row = same_state c.state.ensures in
     by_state _ _ _ c.in_ok-arguments.ensures refl (ledger_head _ c.in_ok-check_ledger.ensures) refl (grind arith)
 
 pub returns : goal.returns
 unfolding first
 returns c pair titles rules =
-    let row = same_state c.state.ensures in
     by_state _ _ _ c.in_ok-arguments.ensures refl (ledger_head _ c.in_ok-check_ledger.ensures) refl (grind arith)
