@@ -11,4 +11,4 @@ use Rattle.music_counter.proofs.set_here.Goals as goal
 pub returns : goal.returns
 returns c =
     let a = c.args in
-    placed (24 * a.content.0) 24 a.ledger.now (λ (p : List ℕ). here_row a.facts) (omega arith) (here_length a.facts) c.write_here.ensures
+    placed (24 * a.content.0) 24 a.ledger.now (λ (p : List ℕ). here_row a.facts) (omega arith) (λ p e. here_length a.facts) c.write_here.ensures

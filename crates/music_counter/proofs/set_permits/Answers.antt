@@ -3,9 +3,7 @@
 use Prim.Native.Nat.{ℕ, ◌*◌}
 use mathlib.Core.List.{List}
 use native.Mathlib.Omega.{arith}
-use Rattle.formats.specs.Part.{part}
 use Rattle.formats.specs.Row.{with_permits}
-use Rattle.formats.proofs.Part.{part_length}
 use Rattle.formats.proofs.row.Laws.{permits_length}
 use Rattle.music_counter.proofs.Places.{placed}
 use Rattle.music_counter.proofs.set_permits.Goals as goal
@@ -13,6 +11,4 @@ use Rattle.music_counter.proofs.set_permits.Goals as goal
 pub returns : goal.returns
 returns c =
     let a = c.args in
-    let p = part a.ledger.now (24 * a.content.0) 24 in
-    let e = part_length (24 * a.content.0) 24 a.ledger.now (omega arith) in
-    placed (24 * a.content.0) 24 a.ledger.now (λ (p : List ℕ). with_permits p a.permits) (omega arith) (permits_length p a.permits e) c.write_permits.ensures
+    placed (24 * a.content.0) 24 a.ledger.now (λ (p : List ℕ). with_permits p a.permits) (omega arith) (λ p e. permits_length p a.permits e) c.write_permits.ensures

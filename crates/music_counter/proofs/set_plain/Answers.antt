@@ -11,4 +11,4 @@ use Rattle.music_counter.proofs.set_plain.Goals as goal
 pub returns : goal.returns
 returns c =
     let a = c.args in
-    placed (24 * a.content.0) 24 a.ledger.now (λ (p : List ℕ). plain_row a.state) (omega arith) (plain_length a.state) c.write_plain.ensures
+    placed (24 * a.content.0) 24 a.ledger.now (λ (p : List ℕ). plain_row a.state) (omega arith) (λ p e. plain_length a.state) c.write_plain.ensures

@@ -4,9 +4,7 @@ use Prim.Native.Nat.{ℕ, ◌*◌}
 use mathlib.Core.Path.{◌∙◌}
 use mathlib.Core.List.{List}
 use native.Mathlib.Omega.{arith}
-use Rattle.formats.specs.Part.{part}
 use Rattle.formats.specs.Rule.{wiped_rule}
-use Rattle.formats.proofs.Part.{part_length}
 use Rattle.formats.proofs.rule.Laws.{wiped_rule_length}
 use Rattle.music_counter.proofs.Places.{placed}
 use Rattle.music_counter.proofs.wipe_rule.Goals as goal
@@ -14,6 +12,4 @@ use Rattle.music_counter.proofs.wipe_rule.Goals as goal
 pub returns : goal.returns
 returns c =
     let a = c.args in
-    let p = part a.rules.now (32 * a.entry.0) 32 in
-    let e = part_length (32 * a.entry.0) 32 a.rules.now (omega arith) in
-    placed (32 * a.entry.0) 32 a.rules.now (λ (p : List ℕ). wiped_rule p a.fillers) (omega arith) (wiped_rule_length p a.fillers e ∙ e) c.wipe.ensures
+    placed (32 * a.entry.0) 32 a.rules.now (λ (p : List ℕ). wiped_rule p a.fillers) (omega arith) (λ p e. wiped_rule_length p a.fillers e ∙ e) c.wipe.ensures

@@ -4,9 +4,7 @@ use Prim.Native.Nat.{ℕ, ◌*◌}
 use mathlib.Core.Path.{◌∙◌}
 use mathlib.Core.List.{List}
 use native.Mathlib.Omega.{arith}
-use Rattle.formats.specs.Part.{part}
 use Rattle.formats.specs.Half.{wiped}
-use Rattle.formats.proofs.Part.{part_length}
 use Rattle.formats.proofs.half.Laws.{wiped_length}
 use Rattle.music_counter.proofs.Places.{placed}
 use Rattle.music_counter.proofs.wipe_title.Goals as goal
@@ -14,6 +12,4 @@ use Rattle.music_counter.proofs.wipe_title.Goals as goal
 pub returns : goal.returns
 returns c =
     let a = c.args in
-    let p = part a.titles.now (16 * a.entry.0) 16 in
-    let e = part_length (16 * a.entry.0) 16 a.titles.now (omega arith) in
-    placed (16 * a.entry.0) 16 a.titles.now (λ (p : List ℕ). wiped p a.f1) (omega arith) (wiped_length p a.f1 (omega arith) ∙ e) c.wipe.ensures
+    placed (16 * a.entry.0) 16 a.titles.now (λ (p : List ℕ). wiped p a.f1) (omega arith) (λ p e. wiped_length p a.f1 (omega (arith, e)) ∙ e) c.wipe.ensures

@@ -11,4 +11,4 @@ use Rattle.music_counter.proofs.write_rule.Goals as goal
 pub returns : goal.returns
 returns c =
     let a = c.args in
-    placed (32 * a.entry.0) 32 a.rules.now (λ (p : List ℕ). rule_half a.facts a.hash a.content.0) (omega arith) (length_rule_half a.facts a.hash a.content.0) c.write.ensures
+    placed (32 * a.entry.0) 32 a.rules.now (λ (p : List ℕ). rule_half a.facts a.hash a.content.0) (omega arith) (λ p e. length_rule_half a.facts a.hash a.content.0) c.write.ensures

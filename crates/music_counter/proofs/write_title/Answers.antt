@@ -11,4 +11,4 @@ use Rattle.music_counter.proofs.write_title.Goals as goal
 pub returns : goal.returns
 returns c =
     let a = c.args in
-    placed (16 * a.entry.0) 16 a.titles.now (λ (p : List ℕ). title_half a.cci a.key a.content.0) (omega arith) (length_title_half a.cci a.key a.content.0) c.write.ensures
+    placed (16 * a.entry.0) 16 a.titles.now (λ (p : List ℕ). title_half a.cci a.key a.content.0) (omega arith) (λ p e. length_title_half a.cci a.key a.content.0) c.write.ensures
