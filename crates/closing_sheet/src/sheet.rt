@@ -3,7 +3,6 @@ ghost use Rattle.std.specs.Prelude.{◌≡◌, ◌+◌, ◌*◌, ◌^◌, ◌<�
 ghost use Rattle.formats.specs.Part.{put};
 ghost use Rattle.formats.specs.Head.{LedgerHead, rows_of};
 ghost use Rattle.formats.specs.Refusal.{answer_of};
-ghost use Rattle.formats.specs.Row.{state_answer};
 ghost use Rattle.requests.specs.Number.{count_values, written_answer};
 ghost use Rattle.calls.specs.Buffers.{buffers_of, state_in, copies};
 ghost use Rattle.calls.specs.Perform.{AreBytes};
@@ -17,7 +16,7 @@ use formats::facts::{ContentId, EntryNumber};
 use formats::head::Pair;
 use formats::refusal::Refusal;
 use formats::row::RowState;
-use formats::{head, rule, table};
+use formats::{head, row, rule, table};
 use tables::card::Card;
 use tables::shop::Shop;
 use tables::{by_title, ledger};
@@ -88,10 +87,10 @@ struct Counts {
 }
 
 // Byte 0 of a row; a row past the end has none.
-fn first_byte(ledger: &[u8], content: ContentId) -> u64
+fn first_byte(ledger: &[u8], content: ContentId) -> u8
     ensures { result ≡ get_or ledger.now (24 * content.0) 0 }
 {
-    u64::from(table::byte(table::slot::<24>(ledger, content.0), 0))
+    table::byte(table::slot::<24>(ledger, content.0), 0)
 }
 
 // A shop, with the number of copies and the first full entry of each title on its card.
@@ -152,25 +151,25 @@ impl Sheet<'_> {
 
     // The line of a row in this state, empty or not.
     fn line(&self, content: ContentId, state: RowState) -> Line
-        requires { state_answer state ≡ state_answer (state_in self.now.shop.ledger.now content.0) }
+        requires { state ≡ state_in self.now.shop.ledger.now content.0 }
         ensures { result ≡ line_of (lent self.now.shop) content.0 }
     {
         let (state, shown) = match state {
-            RowState::Empty => (0, Counts::default()),
+            RowState::Empty => (row::EMPTY, Counts::default()),
             RowState::Here(facts) => (
-                1,
+                row::HERE,
                 Counts {
                     permits: facts.permits,
                     rights: facts.rights,
                 },
             ),
-            RowState::Away => (2, self.on_card(content)),
-            RowState::Gone => (3, Counts::default()),
+            RowState::Away => (row::AWAY, self.on_card(content)),
+            RowState::Gone => (row::GONE, Counts::default()),
             RowState::NoState => (first_byte(self.shop.ledger, content), Counts::default()),
         };
         Line {
             row: content.0,
-            state,
+            state: u64::from(state),
             permits: shown.permits,
             rights: shown.rights,
             copies: self.copies(content),

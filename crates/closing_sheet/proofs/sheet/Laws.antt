@@ -19,10 +19,8 @@ use Rattle.formats.proofs.Bytes.{Listed, none, more, then, bytes_part}
 use Rattle.formats.proofs.Part.{put_next, put_length, part_most}
 use Rattle.formats.proofs.field.Laws.{number_below}
 use Rattle.formats.proofs.Stores.{Storing, start}
-use Rattle.formats.specs.Row.{state_answer}
 use Rattle.formats.specs.declared.row.RowState.{RowState}
 use Rattle.formats.specs.declared.row.RowState.TheVariants.{Empty, Here, Away, Gone, NoState}
-use Rattle.formats.proofs.row.Laws.{same_state}
 use Rattle.calls.specs.Buffers.{Buffers, state_at, is_empty, total}
 use Rattle.calls.specs.Perform.{AreBytes}
 use Rattle.text.specs.Text.{decimal, field, line}
@@ -61,11 +59,11 @@ module _ (b : Buffers) (c : ℕ) where
   row_printed e = rw e (refl, refl, refl)
 
   -- what is printed of a row, by its state as it was read
-  pub prints_none : state_answer Empty ≡ state_answer (state_at b c) → None ≡ printed b c
-  prints_none e = rw (sym (same_state e)) refl
+  pub prints_none : Empty ≡ state_at b c → None ≡ printed b c
+  prints_none e = rw (sym e) refl
 
-  pub prints : {s : RowState} {l : Line} → state_answer s ≡ state_answer (state_at b c) → (s ≡ Empty → ⊥) → l ≡ line_of b c → Some l ≡ printed b c
-  prints {s} e some l = rw (sym (same_state e), not_empty s some) (ap (λ (k : Line). Some k) l)
+  pub prints : {s : RowState} {l : Line} → s ≡ state_at b c → (s ≡ Empty → ⊥) → l ≡ line_of b c → Some l ≡ printed b c
+  prints {s} e some l = rw (sym e, not_empty s some) (ap (λ (k : Line). Some k) l)
 
   -- what is not printed adds nothing
   pub none_adds : None ≡ printed b c → (row_text b c ≡ []) × (permits_added b c ≡ 0) × (copies_added b c ≡ 0)

@@ -2,7 +2,6 @@
 -- Assumes nothing.
 use Rattle.std.proofs.Common.{rules}
 use mathlib.Core.Path.{sym, ◌∙◌}
-use Rattle.formats.proofs.row.Laws.{same_state}
 use Rattle.closing_sheet.specs.Sheet.{line_with}
 use Rattle.closing_sheet.proofs.sheet.Sheet.line.Goals as goal
 use Rattle.closing_sheet.proofs.sheet.Sheet.line.Goals.{in-Empty, in-Here, in-Away, in-Gone, in-NoState}
@@ -10,7 +9,7 @@ use Rattle.closing_sheet.proofs.sheet.Sheet.line.Goals.{in-Empty, in-Here, in-Aw
 pub returns : goal.returns
 unfolding line_with
 returns c =
-    let e = sym (same_state c.requires) in
+    let e = sym c.requires in
     elim c.match-state.branch [
       | in-Empty w ↦ rw (w.state-is, e ∙ w.in-Empty.is) (search rules)
       | in-Here w ↦ rw (w.state-is, e ∙ w.in-Here.is) (search rules)
