@@ -84,17 +84,17 @@ fn cases(text: &[u8]) {
 // bytes, and for what stands before it.
 fn case(line: &[u8]) {
     let mut case = [0u8; 32100];
-    let mut digits: usize = 0;
-    for x in line {
-        if let Some(value) = digit(*x) {
-            let at = digits / 2;
-            if at < case.len() {
-                case[at] = case[at] % 16 * 16 + value;
-                digits += 1;
-            }
-        }
+    let mut bytes: usize = 0;
+    for (i, value) in line
+        .iter()
+        .filter_map(|x| digit(*x))
+        .take(64200)
+        .enumerate()
+    {
+        case[i / 2] = case[i / 2] % 16 * 16 + value;
+        bytes = (i + 1) / 2;
     }
-    answer(&case, digits / 2);
+    answer(&case, bytes);
 }
 
 // Of a case that has n bytes.

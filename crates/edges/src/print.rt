@@ -21,6 +21,10 @@ pub fn number(x: u64) {
     io::print_decimal(1, x);
 }
 
+pub fn byte(x: u8) {
+    number(u64::from(x));
+}
+
 // 0 where it is done, else the number of what it is refused with.
 pub fn answer(found: Result<(), Refusal>) {
     number(refusal::number(found));

@@ -2,17 +2,16 @@
 use crate::print;
 use crate::writers::Numbers;
 use closing_sheet::sheet;
-use formats::entry::EntryKind;
+use formats::entry::{Entry, EntryKind};
 use formats::facts::{ContentId, Facts};
 use formats::head::Pair;
 use formats::refusal::Refusal;
 use formats::row::RowState;
-use formats::{entry, field, half, head, row, rule, table, title};
+use formats::{field, half, head, row, rule, table, title};
 use music_counter::serve;
 use music_counter::serve::Note;
 use requests::number::Number;
 use requests::{number, request};
-use tables::card::Card;
 use tables::format;
 use tables::shop::Shop;
 
@@ -30,10 +29,10 @@ pub fn show(code: u8, v: Numbers, case: &[u8], part: &[u8]) {
         0x12 => print::number(u64::from(half::is_flagged(part, ContentId(v[0])))),
         0x13 => print::number(text::len(v[0]) as u64),
         0x21 => heads(v[0], table::part(case, 17, v[1] as usize)),
-        0x22 => entry(
-            table::part(part, 0, v[0] as usize),
-            table::part(part, 16, v[1] as usize),
-        ),
+        0x22 => entry(Entry {
+            title: table::part(part, 0, v[0] as usize),
+            rule: table::part(part, 16, v[1] as usize),
+        }),
         0x31 => closing(v[0], v[1] as usize, v[2] as usize, part),
         _ => written(code, part),
     }
@@ -84,26 +83,26 @@ fn facts(f: Facts) {
 // The state by its number in byte 0, 4 for none.
 fn state(found: RowState) {
     match found {
-        RowState::Empty => print::number(0),
+        RowState::Empty => print::byte(row::EMPTY),
         RowState::Here(f) => {
-            print::number(1);
+            print::byte(row::HERE);
             facts(f);
         }
-        RowState::Away => print::number(2),
-        RowState::Gone => print::number(3),
+        RowState::Away => print::byte(row::AWAY),
+        RowState::Gone => print::byte(row::GONE),
         RowState::NoState => print::number(4),
     }
 }
 
 // The kind by its number, 0 free, 1 copy, 2 full, 3 torn, and the facts.
-fn entry(title: &[u8], rule: &[u8]) {
-    match entry::kind(title, rule) {
+fn entry(found: Entry) {
+    match found.kind() {
         EntryKind::Free => print::number(0),
         EntryKind::Copy => print::number(1),
         EntryKind::Full => print::number(2),
         EntryKind::Torn => print::number(3),
     }
-    facts(entry::facts(title, rule));
+    facts(found.facts());
 }
 
 // 0, the number and its length; or what it is refused with.
@@ -134,10 +133,7 @@ fn closing(c: u64, ledger_len: usize, titles_len: usize, part: &[u8]) {
     let card = table::part(part, ledger_len, part.len());
     let titles = table::part(card, 0, titles_len);
     let rules = table::part(card, titles_len, card.len());
-    let shop = Shop {
-        ledger,
-        card: Card { titles, rules },
-    };
+    let shop = Shop::new(ledger, titles, rules);
     let line = sheet::row_line(shop, ContentId(c));
     print::number(line.row);
     print::number(line.state);
@@ -171,11 +167,9 @@ fn stream(pair: Pair, requests: &[u8]) {
     );
     print::answer(served.stop);
     print::number(served.count as u64);
-    for note in &notes {
-        print::number(note.kind);
-    }
-    for note in &notes {
-        print::number(note.answer);
+    let kinds = notes.iter().map(|note| note.kind);
+    for number in kinds.chain(notes.iter().map(|note| note.answer)) {
+        print::number(number);
     }
     print::bytes(table::part(&ledger, 24, 96));
     print::bytes(table::part(&titles, 16, 64));

@@ -16,8 +16,8 @@ pub fn numbers_of(case: &[u8]) -> Numbers
 {
     // Of `array::from_fn` nothing about the numbers could be proved.
     let mut numbers = [0; 8];
-    for i in 0..8 {
-        numbers[i] = field::read_at(case, 8 * i + 1, 8);
+    for (i, number) in numbers.iter_mut().enumerate() {
+        *number = field::read_at(case, 8 * i + 1, 8);
     }
     numbers
 }

@@ -10,7 +10,6 @@ ghost use Rattle.sheet.specs.Printed.{sheet_printed};
 use closing_sheet::sheet;
 use formats::head::Pair;
 use music_counter::serve;
-use tables::card::Card;
 use tables::shop::Shop;
 
 // What is printed, at the front of a text; answers how many bytes it has. No request is noted.
@@ -24,14 +23,7 @@ fn printed(input: &[u8], text: &mut [u8; 18432]) -> usize
     let mut titles = [0u8; 16000];
     let mut rules = [0u8; 32000];
     let _ = serve::from_fresh(&mut ledger, &mut titles, &mut rules, input, &mut []);
-    let card = Card {
-        titles: &titles,
-        rules: &rules,
-    };
-    let shop = Shop {
-        ledger: &ledger,
-        card,
-    };
+    let shop = Shop::new(&ledger, &titles, &rules);
     sheet::write(Pair::Audio, shop, text).unwrap_or(0)
 }
 

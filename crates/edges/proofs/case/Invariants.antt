@@ -1,7 +1,7 @@
--- The loop of `edges::case`: the digits fit in the bytes of a case.
+-- The loop of `edges::case`: the bytes that the digits spell fit in a case.
 -- Assumes nothing.
 use Rattle.std.proofs.Common.{◌≤◌}
 use Rattle.edges.proofs.case.Given as goal
 
-abbrev pub invariant-loop-x : goal.invariant-loop-x
-invariant-loop-x l = l.digits ≤ 64200
+abbrev pub invariant-loop-i : goal.invariant-loop-i
+invariant-loop-i l = l.bytes ≤ 32100

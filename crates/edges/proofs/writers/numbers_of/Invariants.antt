@@ -7,4 +7,8 @@ use Rattle.edges.specs.Cases.{number_at}
 use Rattle.edges.proofs.writers.numbers_of.Given as goal
 
 abbrev pub invariant-loop-i : goal.invariant-loop-i
-invariant-loop-i l = record { eight : length l.numbers ≡ 8; each : (k : ℕ) → k < l.i → number_at l.numbers k ≡ number (part l.case (8 * k + 1) 8) }
+invariant-loop-i l =
+    record {
+      eight : length l.number-items ≡ 8;
+      each : (k : ℕ) → k < l.i → number_at l.number-items k ≡ number (part l.case (8 * k + 1) 8);
+    }
