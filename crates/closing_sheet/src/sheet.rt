@@ -17,7 +17,6 @@ use formats::head::Pair;
 use formats::refusal::Refusal;
 use formats::row::RowState;
 use formats::{head, row, rule, table};
-use tables::card::Card;
 use tables::shop::Shop;
 use tables::{by_title, ledger};
 use text::Text;
@@ -108,11 +107,11 @@ impl<'a> Sheet<'a> {
     fn of(ledger: &'a [u8], titles: &'a [u8], rules: &'a [u8]) -> Self
         ensures { lent result.shop ≡ buffers_of ledger.now titles.now rules.now }
     {
-        let card = Card { titles, rules };
+        let shop = Shop::new(ledger, titles, rules);
         Sheet {
-            shop: Shop { ledger, card },
-            tallies: by_title::tallies(card),
-            entries: by_title::full_entries(card),
+            shop,
+            tallies: by_title::tallies(shop.card),
+            entries: by_title::full_entries(shop.card),
         }
     }
 }

@@ -319,10 +319,7 @@ pub extern "C" fn counter_sheet(
     ensures used_told { used.new ≡ count_after (sheet_writing (pair_of pair)
         (buffers_of ledger.now titles.now rules.now) text.old) used.old }
 {
-    let shop = Shop {
-        ledger,
-        card: Card { titles, rules },
-    };
+    let shop = Shop::new(ledger, titles, rules);
     tell(sheet::write(pair_of(pair), shop, text), used)
 }
 
