@@ -6,7 +6,8 @@ use Rattle.sheet.proofs.printed.Goals as goal
 
 pub returns : goal.returns
 returns c =
+    let answer = rw c.new-shop.ensures at c.write.ensures.answer in
+    let written = rw c.new-shop.ensures at c.write.ensures.written in
     let w =
-    is_printed _ _ (omega arith) c.from_fresh.ensures.serves.buffers c.write.result
-    (c.write.ensures.answer, c.write.ensures.written) c.unwrap_or.ensures in
+    is_printed _ _ (omega arith) c.from_fresh.ensures.serves.buffers c.write.result (answer, written) c.unwrap_or.ensures in
     record { size = w.0; within = w.1.0; front = w.1.1.0; bytes = w.1.1.1 }
