@@ -54,13 +54,18 @@ pub fn content_id(half: &[u8]) -> ContentId
     ContentId(field::read_at(half, 8, 8) & ID_BITS)
 }
 
+// Of a usable half flag and ID together are above the flag alone. Apart from `usable_id`, with which a tally takes a fifth longer.
 pub fn usable(half: &[u8]) -> bool
     ensures { result ≡ usable_of half.now }
 {
-    usable_id(half).is_some()
+    if half.len() < 16 {
+        return false;
+    }
+    FLAG < field::read_at(half, 8, 8) & (FLAG | ID_BITS)
 }
 
-// The content ID of a usable half. Of such a half flag and ID together are above the flag alone.
+// The content ID of a usable half: where the flag is set and the ID is not 0. One number until the end, so that a limit of the ID
+// is tested with it.
 pub fn usable_id(half: &[u8]) -> Option<ContentId>
     ensures { result ≡ usable_id half.now }
 {
@@ -68,11 +73,8 @@ pub fn usable_id(half: &[u8]) -> Option<ContentId>
         return None;
     }
     let tail = field::read_at(half, 8, 8);
-    if FLAG < tail & (FLAG | ID_BITS) {
-        Some(ContentId(tail & ID_BITS))
-    } else {
-        None
-    }
+    let id = if tail & FLAG == 0 { 0 } else { tail & ID_BITS };
+    if id == 0 { None } else { Some(ContentId(id)) }
 }
 
 // Whether a half has flag 1 and this content ID, from 1 to 999. Flag and ID are compared at once, in the order of their bytes.

@@ -193,6 +193,17 @@ module _ (h : List ℕ) (byte : Bytes h) (size : 16 ≤ length h) where
   tail_flag : bit_and (number (part h 8 8)) (2 ^ 63) ≡ get_or h 8 0 / 128 * 2 ^ 63
   tail_flag = and_high (number (part h 8 8)) 1 63 ∙ omega (arith, tail_top, byte 8)
 
+  -- a half whose flag is 0 there is not usable, and one with flag 1 is by its ID
+  pub tail_clear : bit_and (number (part h 8 8)) (2 ^ 63) ≡ 0 → usable_of h ≡ false
+  tail_clear clear = not_flagged h (lt-leb 128 (get_or h 8 0) (omega (arith, sym tail_flag ∙ clear)))
+
+  pub tail_set : (bit_and (number (part h 8 8)) (2 ^ 63) ≡ 0 → ⊥) → usable_of h ≡ not (eqb (id_of h) 0)
+  tail_set set =
+      elim (dec_le 128 (get_or h 8 0)) [
+        | yes p ↦ flagged h size (le-leb 128 (get_or h 8 0) p)
+        | no p ↦ absurd (set (tail_flag ∙ omega arith))
+      ]
+
   -- flag and ID together are above the flag alone where both count
   tail_marks : bit_and (number (part h 8 8)) (2 ^ 63 + 1023) ≡ get_or h 8 0 / 128 * 2 ^ 63 + id_of h
   tail_marks =

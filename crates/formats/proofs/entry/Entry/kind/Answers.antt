@@ -1,6 +1,6 @@
 -- `formats::entry::Entry::kind` meets its contract: one law of `proofs/entry/Laws` for each return.
 -- Assumes nothing.
-use Rattle.std.proofs.Common.{◌∙◌, sym, ap, arith}
+use Rattle.std.proofs.Common.{◌∙◌, sym, arith}
 use borrow.Author.Tests.{eqb-true, eqb-false}
 use Rattle.formats.proofs.half.Laws.{without_id, with_id}
 use Rattle.formats.proofs.entry.Laws.{kind_free, torn_lone, torn_id, torn_cci, copy_beside, full_beside, torn_ids}
