@@ -15,6 +15,7 @@ use formats::row::RowState;
 use tables::ledger;
 use tables::shop::Shop;
 
+// Both halves are looked at before either test for 16: one after the other, the compiler carries the answer as a flag and a number.
 #[tactic(auto, unfolding(calls::specs::Refusal::first, formats::specs::Entry::entry_facts))]
 fn state(
     pair: Pair,
@@ -37,9 +38,8 @@ fn state(
     if hash != shop.card.hash(entry) {
         return Err(Refusal::Hash);
     }
-    if shop.card.leaves_title_key(entry, fillers.f1)
-        || shop.card.refuses_f2(pair, entry, fillers.f2)
-    {
+    let leaves_rule_key = shop.card.refuses_f2(pair, entry, fillers.f2);
+    if shop.card.leaves_title_key(entry, fillers.f1) || leaves_rule_key {
         return Err(Refusal::Filler);
     }
     Ok(())
