@@ -10,7 +10,7 @@ use formats::row::RowState;
 use formats::{field, half, head, row, rule, table, title};
 use music_counter::serve;
 use music_counter::serve::Note;
-use requests::number::Number;
+use requests::read::Read;
 use requests::{number, request};
 use tables::format;
 use tables::shop::Shop;
@@ -106,7 +106,7 @@ fn entry(found: Entry) {
 }
 
 // 0, the number and its length; or what it is refused with.
-fn read(found: Result<Number, Refusal>) {
+fn read(found: Result<Read<u64>, Refusal>) {
     print::answer(found.map(|_| ()));
     if let Ok(read) = found {
         print::number(read.value);

@@ -12,7 +12,7 @@ use Rattle.formats.specs.Refusal.{number_of, answer_number, answer_of}
 use Rattle.formats.specs.declared.refusal.Refusal.{Refusal}
 use Rattle.requests.specs.Request.{RequestRead, Read, Refused as Faulty, read_request, request_values, request_answer, reading_of, kind_of}
 use Rattle.requests.specs.declared.request.Request.{Request}
-use Rattle.requests.specs.declared.request.RequestRead.{RequestRead as ReadRequest}
+use Rattle.requests.specs.declared.read.Read.{Read as Found}
 use Rattle.requests.proofs.request.Laws.{request_form, same_reading}
 use Rattle.calls.specs.Buffers.{Buffers}
 use Rattle.calls.specs.Perform.{Performed, perform}
@@ -159,7 +159,7 @@ module _ {pair : Pair} {s : List ℕ} {before : Buffers} {notes : List Note} {re
   finished h = ended (Ok tt) (stream_ends rest (omega arith))
 
   -- x was read at the front of the rest
-  module _ (x : Result ReadRequest Refusal) (read : answer_of request_values x ≡ request_answer (read_request rest)) where
+  module _ (x : Result (Found Request) Refusal) (read : answer_of request_values x ≡ request_answer (read_request rest)) where
     found : {y : RequestRead} → reading_of x ≡ y → read_request rest ≡ y
     found e = sym (same_reading x read) ∙ e
 
@@ -170,8 +170,8 @@ module _ {pair : Pair} {s : List ℕ} {before : Buffers} {notes : List Note} {re
         ended stop (stream_fault rest (omega arith) (found (ap reading_of e)) ∙ ap (λ (n : ℕ). record { requests = []; stop = n }) (sym d))
 
     -- it is a request
-    module _ {q : ReadRequest} (e : x ≡ Ok q) where
-      as_read : read_request rest ≡ Read q.request q.len
+    module _ {q : Found Request} (e : x ≡ Ok q) where
+      as_read : read_request rest ≡ Read q.value q.len
       as_read = found (ap reading_of e)
 
       -- there is a number for one more
@@ -183,13 +183,13 @@ module _ {pair : Pair} {s : List ℕ} {before : Buffers} {notes : List Note} {re
         pub fewer : length unread < length rest
         fewer = rw after-it (shorter rest as_read)
 
-        pub served : {kind answer : ℕ} {after : Buffers} {notes'' : List Note} → Answers pair q.request b answer after → kind ≡ kind_of q.request
+        pub served : {kind answer : ℕ} {after : Buffers} {notes'' : List Note} → Answers pair q.value b answer after → kind ≡ kind_of q.value
             → notes'' ≡ set notes' count (record { kind = kind; answer = answer }) → Serving pair s before notes unread after notes'' (count + 1)
         unfolding run
         served {kind} {answer} made kind_is wrote =
             let next = stream_next rest as_read in
-            let kept = in_bounds pair q.request b in
-            let line : Answered = record { call = q.request; answer = (perform pair q.request b).answer } in
+            let kept = in_bounds pair q.value b in
+            let line : Answered = record { call = q.value; answer = (perform pair q.value b).answer } in
             let answer-is = ap (λ (p : Performed). p.answer) made in
             rw (after-it, ap (λ (p : Performed). p.buffers) made)
             (record {

@@ -103,8 +103,8 @@ pub fn all(
                 count,
             };
         };
-        let answer = refusal::number(perform(pair, ledger, titles, rules, read.request));
-        let kind = request::kind(read.request);
+        let answer = refusal::number(perform(pair, ledger, titles, rules, read.value));
+        let kind = request::kind(read.value);
         put_note(notes, count, Note { kind, answer });
         count += 1;
         rest = request::remainder(rest, found);

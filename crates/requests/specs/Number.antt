@@ -2,7 +2,7 @@
 use Rattle.std.specs.Prelude.{ℕ, zero, suc, ◌+◌, ◌-◌, ◌*◌, ◌/◌, ◌%◌, List, [], ◌∷◌, Bool, true, false, cond, not, ◌&&◌, length, leb, ltb, eqb}
 use Rattle.formats.specs.Answer.{Answer, done, refused}
 use Rattle.formats.specs.Part.{put}
-use Rattle.requests.specs.declared.number.Number.{Number as ReadNumber}
+use Rattle.requests.specs.declared.read.Read.{Read}
 
 -- the groups of n, at most suc k of them; `last` says that n is below 128, so that it is a single group
 unfoldable pub groups_in : ℕ → Bool → ℕ → List ℕ
@@ -51,7 +51,7 @@ unfoldable pub read_number : List ℕ → NumberRead
 read_number s = cond (exceeds 9 s) (Refused 2) (read_groups true s)
 
 -- the values of a number that the code read: itself and the count of its bytes
-abbrev pub number_values : ReadNumber → List ℕ
+abbrev pub number_values : Read ℕ → List ℕ
 number_values n = n.value ∷ n.len ∷ []
 
 -- the value of what the code wrote: the count of its bytes

@@ -11,7 +11,7 @@ use Rattle.requests.specs.declared.request.Argument.{Argument}
 use Rattle.requests.specs.declared.request.Argument.TheVariants.{Content, Entry, Cci, Trigger, Rights, Permits, Key, Any}
 use Rattle.requests.specs.declared.request.Request.{Request}
 use Rattle.requests.specs.declared.request.Request.TheVariants.{Register, Record, CheckOut, CheckIn, MoveOut, MoveIn, Delete}
-use Rattle.requests.specs.declared.request.RequestRead.{RequestRead as ReadRequest}
+use Rattle.requests.specs.declared.read.Read.{Read as Found}
 
 -- what a value must be in order to pass as an argument: c and j "1 to 999", the facts in their ranges; "f1 to f4 are 64-bit fillers,
 -- h a 64-bit C_HASH", which have no limit of their own
@@ -176,12 +176,12 @@ read_request s =
     (λ kind k. cond (eqb (kind_limit kind) 0) (as_request kind k (read_arguments (schema kind) (drop k s))) (Refused (kind_limit kind)))
 
 -- the values of a request that the code read: the count of its bytes, its kind and its arguments
-abbrev pub request_values : ReadRequest → List ℕ
-request_values r = r.len ∷ kind_of r.request ∷ values_of r.request
+abbrev pub request_values : Found Request → List ℕ
+request_values r = r.len ∷ kind_of r.value ∷ values_of r.value
 
 -- what the code's answer says was found
-abbrev pub reading_of : Result ReadRequest Refusal → RequestRead
-reading_of (Ok r) = Read r.request r.len
+abbrev pub reading_of : Result (Found Request) Refusal → RequestRead
+reading_of (Ok r) = Read r.value r.len
 reading_of (Err w) = Refused (number_of w)
 
 -- the paper's number and values of each case of reading a request: the count of its bytes, its kind and its arguments

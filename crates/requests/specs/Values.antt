@@ -2,7 +2,7 @@
 use Rattle.std.specs.Prelude.{ℕ, ◌-◌, ◌≡◌, List, ◌∷◌, ◌++◌, length, replicate}
 use Rattle.formats.specs.Answer.{Answer, done, refused}
 use Rattle.requests.specs.Request.{kind_of, values_of, ArgumentsRead, Values, Fault}
-use Rattle.requests.specs.declared.request.Arguments.{Arguments}
+use Rattle.requests.specs.declared.read.Read.{Read}
 use Rattle.requests.specs.declared.request.Request.{Request}
 
 -- values, and zeros up to the ninth place
@@ -15,8 +15,8 @@ pub record Holds (q : Request) (kind : ℕ) (values : List ℕ) : Type 0 where
   pub values_are : values ≡ filled (values_of q)
 
 -- the values of arguments that the code read: the count of their bytes, and themselves
-abbrev pub arguments_values : Arguments → List ℕ
-arguments_values a = a.len ∷ a.values
+abbrev pub arguments_values : Read (List ℕ) → List ℕ
+arguments_values a = a.len ∷ a.value
 
 -- the paper's number and values of each case of reading arguments, in the places that the code has for them
 abbrev pub arguments_answer : ArgumentsRead → Answer

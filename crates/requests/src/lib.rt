@@ -3,4 +3,5 @@
 #![tactic(auto)]
 
 pub mod number;
+pub mod read;
 pub mod request;

@@ -4,26 +4,20 @@ ghost use Rattle.formats.specs.Part.{put, fitting};
 ghost use Rattle.formats.specs.Refusal.{answer_of};
 ghost use Rattle.requests.specs.Number.{groups, read_number, number_values, number_answer, count_values, written_answer, writing, written_to};
 
+use crate::read::Read;
 use formats::refusal::Refusal;
 
-// A number that was read, and the count of its bytes.
-#[derive(Clone, Copy, Debug, PartialEq, Eq)]
-pub struct Number {
-    pub value: u64,
-    pub len: usize,
-}
-
 // The number at the front of `s`.
-pub fn read(s: &[u8]) -> Result<Number, Refusal>
+pub fn read(s: &[u8]) -> Result<Read<u64>, Refusal>
     ensures { answer_of number_values result ≡ number_answer (read_number s.now) }
 {
     let mut value: u64 = 0;
     let mut place: u64 = 1;
     for (i, byte) in s.iter().enumerate() {
-        let b = *byte as u64;
+        let b = u64::from(*byte);
         if i == 9 {
             if b == 1 {
-                return Ok(Number {
+                return Ok(Read {
                     value: value + place,
                     len: 10,
                 });
@@ -35,7 +29,7 @@ pub fn read(s: &[u8]) -> Result<Number, Refusal>
             if b == 0 && is_longer {
                 return Err(Refusal::Number);
             }
-            return Ok(Number {
+            return Ok(Read {
                 value: value + place * b,
                 len: i + 1,
             });

@@ -1,5 +1,6 @@
 // Requests: a kind and its arguments, each a number in groups of seven bits.
-ghost use Rattle.std.specs.Prelude.{◌≡◌, ◌≤◌, length, take};
+ghost use Rattle.std.specs.Prelude.{◌≡◌, ◌≤◌, [], ◌∷◌, ◌++◌, length, take};
+ghost use Rattle.formats.specs.Facts.{fact_values};
 ghost use Rattle.formats.specs.Part.{put};
 ghost use Rattle.formats.specs.Refusal.{answer_number, answer_of};
 ghost use Rattle.requests.specs.Number.{count_values, written_answer};
@@ -9,6 +10,7 @@ ghost use Rattle.requests.specs.Request.{remainder_of, writing_request, request_
 ghost use Rattle.requests.specs.Values.{Holds, arguments_values, arguments_answer};
 
 use crate::number;
+use crate::read::Read;
 use Argument::{Any, Cci, Content, Entry, Key, Permits, Rights, Trigger};
 use formats::facts;
 use formats::facts::{ContentId, EntryNumber, Facts, Fillers};
@@ -49,13 +51,6 @@ pub enum Request {
         entry: EntryNumber,
         fillers: Fillers,
     },
-}
-
-// A request that was read, and the count of its bytes.
-#[derive(Clone, Copy)]
-pub struct RequestRead {
-    pub request: Request,
-    pub len: usize,
 }
 
 // What an argument is, which decides its limit.
@@ -106,13 +101,6 @@ impl Numbers {
     }
 }
 
-// The values of arguments that were read, with zeros after them, and the count of their bytes.
-#[derive(Clone, Copy)]
-struct Arguments {
-    values: [u64; 9],
-    len: usize,
-}
-
 // The arguments of a kind.
 #[tactic(auto, unfolding(crate::specs::Request::schema))]
 fn schema(kind: u64) -> &'static [Argument]
@@ -141,74 +129,68 @@ pub fn kind_limit(kind: u64) -> Result<(), Refusal>
     }
 }
 
+// The values of register, with zeros after them.
+fn register_values(content: ContentId, facts: Facts) -> [u64; 9]
+    ensures { result ≡ content.0 ∷ (fact_values facts ++ (0 ∷ 0 ∷ [])) }
+{
+    [
+        content.0,
+        facts.cci,
+        facts.trigger,
+        facts.rights,
+        facts.permits,
+        facts.title_key,
+        facts.sti_key,
+        0,
+        0,
+    ]
+}
+
+// The values of record, which are nine.
+fn record_values(content: ContentId, entry: EntryNumber, facts: Facts, hash: u64) -> [u64; 9]
+    ensures { result ≡ content.0 ∷ entry.0 ∷ (fact_values facts ++ (hash ∷ [])) }
+{
+    [
+        content.0,
+        entry.0,
+        facts.cci,
+        facts.trigger,
+        facts.rights,
+        facts.permits,
+        facts.title_key,
+        facts.sti_key,
+        hash,
+    ]
+}
+
 // A request as numbers.
 #[tactic(auto, unfolding(crate::specs::Values::filled))]
 pub fn numbers_of(request: Request) -> Numbers
     ensures { Holds request result.kind result.values }
 {
-    match request {
-        Request::Register { content, facts: f } => Numbers {
-            kind: 1,
-            values: [
-                content.0,
-                f.cci,
-                f.trigger,
-                f.rights,
-                f.permits,
-                f.title_key,
-                f.sti_key,
-                0,
-                0,
-            ],
-        },
+    let (kind, values) = match request {
+        Request::Register { content, facts } => (1, register_values(content, facts)),
         Request::Record {
             content,
             entry,
-            facts: f,
+            facts,
             hash,
-        } => Numbers {
-            kind: 2,
-            values: [
-                content.0,
-                entry.0,
-                f.cci,
-                f.trigger,
-                f.rights,
-                f.permits,
-                f.title_key,
-                f.sti_key,
-                hash,
-            ],
-        },
-        Request::CheckOut { content, entry } => Numbers {
-            kind: 3,
-            values: [content.0, entry.0, 0, 0, 0, 0, 0, 0, 0],
-        },
-        Request::CheckIn { entry, f1 } => Numbers {
-            kind: 4,
-            values: [entry.0, f1, 0, 0, 0, 0, 0, 0, 0],
-        },
+        } => (2, record_values(content, entry, facts, hash)),
+        Request::CheckOut { content, entry } => (3, [content.0, entry.0, 0, 0, 0, 0, 0, 0, 0]),
+        Request::CheckIn { entry, f1 } => (4, [entry.0, f1, 0, 0, 0, 0, 0, 0, 0]),
         Request::MoveOut {
             entry,
             hash,
             fillers: f,
-        } => Numbers {
-            kind: 5,
-            values: [entry.0, hash, f.f1, f.f2, f.f3, f.f4, 0, 0, 0],
-        },
+        } => (5, [entry.0, hash, f.f1, f.f2, f.f3, f.f4, 0, 0, 0]),
         Request::MoveIn {
             content,
             entry,
             hash,
-        } => Numbers {
-            kind: 6,
-            values: [content.0, entry.0, hash, 0, 0, 0, 0, 0, 0],
-        },
-        Request::Delete { entry, fillers: f } => Numbers {
-            kind: 7,
-            values: [entry.0, f.f1, f.f2, f.f3, f.f4, 0, 0, 0, 0],
-        },
-    }
+        } => (6, [content.0, entry.0, hash, 0, 0, 0, 0, 0, 0]),
+        Request::Delete { entry, fillers: f } => (7, [entry.0, f.f1, f.f2, f.f3, f.f4, 0, 0, 0, 0]),
+    };
+    Numbers { kind, values }
 }
 
 // The facts that stand in values from place `i` on. A pattern that takes part of an array, `[content, facts @ .., hash]`, gets no
@@ -281,8 +263,9 @@ pub fn request_of(kind: u64, v: [u64; 9]) -> Request
     }
 }
 
-// Reads the arguments of a kind at the front of `s`. Each number is tested for its own limit before the next is read.
-fn read_arguments(s: &[u8], kind: u64) -> Result<Arguments, Refusal>
+// The arguments of a kind at the front of `s`, in nine places with zeros after them. Each number is tested for its own limit before
+// the next is read.
+fn read_arguments(s: &[u8], kind: u64) -> Result<Read<[u64; 9]>, Refusal>
     ensures { answer_of arguments_values result ≡ arguments_answer (read_arguments (schema kind) s.now) }
 {
     let mut values = [0; 9];
@@ -293,7 +276,10 @@ fn read_arguments(s: &[u8], kind: u64) -> Result<Arguments, Refusal>
         values[i] = found.value;
         used += found.len;
     }
-    Ok(Arguments { values, len: used })
+    Ok(Read {
+        value: values,
+        len: used,
+    })
 }
 
 // The number of a request's kind.
@@ -312,20 +298,20 @@ pub fn kind(request: Request) -> u64
 }
 
 // The request at the front of `s`.
-pub fn read(s: &[u8]) -> Result<RequestRead, Refusal>
+pub fn read(s: &[u8]) -> Result<Read<Request>, Refusal>
     ensures { answer_of request_values result ≡ request_answer (read_request s.now) }
 {
     let kind = number::read(s)?;
     kind_limit(kind.value)?;
     let arguments = read_arguments(&s[kind.len..], kind.value)?;
-    Ok(RequestRead {
-        request: request_of(kind.value, arguments.values),
+    Ok(Read {
+        value: request_of(kind.value, arguments.value),
         len: kind.len + arguments.len,
     })
 }
 
 // The unread remainder of `s` after what was read at its front, as part of the caller's own bytes: all of `s` on a refusal.
-pub fn remainder(s: &[u8], found: Result<RequestRead, Refusal>) -> &[u8]
+pub fn remainder(s: &[u8], found: Result<Read<Request>, Refusal>) -> &[u8]
     ensures { result.now ≡ remainder_of s.now (reading_of found) }
 {
     match found {

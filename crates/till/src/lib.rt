@@ -343,7 +343,7 @@ pub extern "C" fn counter_read_request(
     let Numbers {
         kind: found_kind,
         values,
-    } = request::numbers_of(read.request);
+    } = request::numbers_of(read.value);
     *kind = found_kind;
     *arguments = values;
     *used = read.len;

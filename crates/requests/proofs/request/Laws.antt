@@ -22,7 +22,7 @@ use Rattle.requests.specs.declared.request.Request.TheVariants.{Register, Record
 use Rattle.formats.specs.Bytes.{Bytes}
 use Rattle.formats.specs.Refusal.{answer_of}
 use Rattle.formats.specs.declared.refusal.Refusal.{Refusal}
-use Rattle.requests.specs.declared.request.RequestRead.{RequestRead as ReadRequest}
+use Rattle.requests.specs.declared.read.Read.{Read as Found}
 use Rattle.std.specs.Prelude.{Result, Ok, Err}
 use Rattle.formats.proofs.Bytes.{bytes_drop}
 use Rattle.formats.proofs.Cells.{cells, of_cells}
@@ -178,7 +178,7 @@ same_request {r = Refused w} {q = Read q k} e = absurd (valued (sym e))
 same_request {r = Refused w} {q = Refused x} e = ap Refused (ap (λ (a : Answer). a.number) e)
 
 -- what the code's answer says was found is what was found, where numbers and values are the same
-pub same_reading : (r : Result ReadRequest Refusal) {q : RequestRead} → answer_of request_values r ≡ request_answer q → reading_of r ≡ q
+pub same_reading : (r : Result (Found Request) Refusal) {q : RequestRead} → answer_of request_values r ≡ request_answer q → reading_of r ≡ q
 same_reading (Ok r) e = same_request e
 same_reading (Err w) e = same_request e
 

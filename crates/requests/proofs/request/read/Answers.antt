@@ -48,7 +48,7 @@ pub overflow_add-result : goal.overflow_add-result
 overflow_add-result c =
     let n = c.in_ok-kind.kind in
     let a = c.in_ok-arguments.arguments in
-    let k : KindRead c.args.s.now n.value n.len (done (a.len ∷ a.values)) =
+    let k : KindRead c.args.s.now n.value n.len (done (a.len ∷ a.value)) =
     record { number_is = c.in_ok-kind.ensures; passes = c.in_ok-kind_limit.ensures; asked = c.in_ok-arguments.ensures } in
     omega (arith, request_within k)
 
@@ -56,6 +56,6 @@ pub returns : goal.returns
 returns c =
     let n = c.in_ok-kind.kind in
     let a = c.in_ok-arguments.arguments in
-    let k : KindRead c.args.s.now n.value n.len (done (a.len ∷ a.values)) =
+    let k : KindRead c.args.s.now n.value n.len (done (a.len ∷ a.value)) =
     record { number_is = c.in_ok-kind.ensures; passes = c.in_ok-kind_limit.ensures; asked = c.in_ok-arguments.ensures } in
     ap request_answer (ap (λ (q : Request). Read q (n.len + a.len)) (same_call c.request_of.ensures) ∙ request_read k)
