@@ -1,19 +1,11 @@
 -- What the two halves of an entry are together.
-use Rattle.std.specs.Prelude.{ℕ, List, [], Bool, true, false, ◌&&◌, ◌||◌, cond, ltb, eqb}
-use Rattle.formats.specs.Answer.{Answer, case}
+use Rattle.std.specs.Prelude.{ℕ, List, Bool, true, false, ◌&&◌, ◌||◌, cond, ltb, eqb}
 use Rattle.formats.specs.Half.{key_of, id_of, usable_of}
 use Rattle.formats.specs.Title.{cci_of}
 use Rattle.formats.specs.Rule.{trigger_of, rights_of, permits_of}
 use Rattle.formats.specs.declared.facts.Facts.{Facts}
 use Rattle.formats.specs.declared.entry.EntryKind.{EntryKind}
 use Rattle.formats.specs.declared.entry.EntryKind.TheVariants.{Free, Copy, Full, Torn}
-
--- the kinds numbered from 0 in the paper's order, "free .. copy .. full .. torn", without values
-unfoldable pub kind_answer : EntryKind → Answer
-kind_answer Free = case 0 []
-kind_answer Copy = case 1 []
-kind_answer Full = case 2 []
-kind_answer Torn = case 3 []
 
 -- "free, no half usable; copy, only the title half usable; full, both usable with equal IDs; torn, anything else"
 abbrev pub kind_by : Bool → Bool → Bool → EntryKind

@@ -2,20 +2,10 @@
 use Rattle.std.specs.Prelude.{ℕ, ◌%◌, List, [], ◌∷◌, ◌++◌, cond, length, get_or, replicate, eqb}
 use Rattle.formats.specs.Part.{part, put}
 use Rattle.formats.specs.Field.{number, bytes_of}
-use Rattle.formats.specs.Answer.{Answer, case}
-use Rattle.formats.specs.Facts.{fact_values, in_range}
+use Rattle.formats.specs.Facts.{in_range}
 use Rattle.formats.specs.declared.facts.Facts.{Facts}
 use Rattle.formats.specs.declared.row.RowState.{RowState}
 use Rattle.formats.specs.declared.row.RowState.TheVariants.{Empty, Here, Away, Gone, NoState}
-
--- "byte 0 state (0 empty, 1 here, 2 away on the card, 3 gone)", with the facts of a row that is here; 4 for bytes that are no
--- state
-unfoldable pub state_answer : RowState → Answer
-state_answer Empty = case 0 []
-state_answer (Here f) = case 1 (fact_values f)
-state_answer Away = case 2 []
-state_answer Gone = case 3 []
-state_answer NoState = case 4 []
 
 -- "1 CCI; 2 trigger 0 or 1; 3 move rights; 4 permits; 5-7 zero; 8-14 title key; 15 zero; 16-22 STI key; 23 zero"
 unfoldable pub facts_of : List ℕ → Facts

@@ -1,6 +1,6 @@
 -- "A request is its kind and its arguments in the order above."
 use Rattle.std.specs.Prelude.{ℕ, ◌+◌, List, [], ◌∷◌, ◌++◌, Bool, true, ◌&&◌, cond, get_or, drop, leb, eqb, Result, Ok, Err}
-use Rattle.formats.specs.Answer.{Answer, case, done, refused}
+use Rattle.formats.specs.Answer.{Answer, done, refused}
 use Rattle.formats.specs.Facts.{fact_values, numbered, cci_passes, trigger_passes, count_passes, key_passes}
 use Rattle.requests.specs.Number.{NumberRead, Number, Refused as NoNumber, Written, NotWritten, groups, read_number, writing, written_to}
 use Rattle.formats.specs.Refusal.{unless, number_of}
@@ -85,10 +85,6 @@ values_of (CheckIn j f) = j.0 ∷ f ∷ []
 values_of (MoveOut j h f) = j.0 ∷ h ∷ filler_values f
 values_of (MoveIn c j h) = c.0 ∷ j.0 ∷ h ∷ []
 values_of (Delete j f) = j.0 ∷ filler_values f
-
--- the paper's number and values of each case of a request: its kind and its arguments
-unfoldable pub call_answer : Request → Answer
-call_answer q = case (kind_of q) (values_of q)
 
 -- the facts, and the fillers, that stand in a list of values from place i on
 abbrev pub facts_from : List ℕ → ℕ → Facts

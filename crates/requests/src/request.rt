@@ -4,7 +4,7 @@ ghost use Rattle.formats.specs.Facts.{fact_values};
 ghost use Rattle.formats.specs.Part.{put};
 ghost use Rattle.formats.specs.Refusal.{answer_number, answer_of};
 ghost use Rattle.requests.specs.Number.{count_values, written_answer};
-ghost use Rattle.requests.specs.Request.{limit, kind_limit, kind_of, call_answer, schema, facts_from, fillers_from, request_of};
+ghost use Rattle.requests.specs.Request.{limit, kind_limit, kind_of, schema, facts_from, fillers_from, request_of};
 ghost use Rattle.requests.specs.Request.{written, limit_of, read_arguments, read_request, request_values, request_answer, reading_of};
 ghost use Rattle.requests.specs.Request.{remainder_of, writing_request, request_written_to};
 ghost use Rattle.requests.specs.Values.{Holds, arguments_values, arguments_answer};
@@ -225,7 +225,7 @@ fn fillers_from(v: [u64; 9], i: usize) -> Fillers
 // not tested here.
 #[tactic(auto, unfolding(crate::specs::Request::request_of))]
 pub fn request_of(kind: u64, v: [u64; 9]) -> Request
-    ensures { call_answer result ≡ call_answer (request_of kind v) }
+    ensures { result ≡ request_of kind v }
 {
     match kind {
         1 => Request::Register {

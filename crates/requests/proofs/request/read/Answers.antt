@@ -8,7 +8,6 @@ use Rattle.requests.specs.Request.{Read, Refused, request_values, request_answer
 use Rattle.requests.specs.declared.request.Request.{Request}
 use Rattle.requests.proofs.number.Laws.{same_number}
 use Rattle.requests.proofs.request.Cases.{kind_refused, kind_limit_lem}
-use Rattle.requests.proofs.request.Laws.{same_call}
 use Rattle.requests.proofs.Refusals.{refusal_positive}
 use Rattle.requests.proofs.request.Reading.{KindRead, number_within, request_fault, request_read, request_within}
 use Rattle.requests.proofs.request.read.Goals as goal
@@ -58,4 +57,4 @@ returns c =
     let a = c.in_ok-arguments.arguments in
     let k : KindRead c.args.s.now n.value n.len (done (a.len ∷ a.value)) =
     record { number_is = c.in_ok-kind.ensures; passes = c.in_ok-kind_limit.ensures; asked = c.in_ok-arguments.ensures } in
-    ap request_answer (ap (λ (q : Request). Read q (n.len + a.len)) (same_call c.request_of.ensures) ∙ request_read k)
+    ap request_answer (ap (λ (q : Request). Read q (n.len + a.len)) c.request_of.ensures ∙ request_read k)
