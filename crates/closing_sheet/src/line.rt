@@ -28,7 +28,7 @@ impl Line {
             + 5
     }
 
-    // Writes the line, for which there is room.
+    // Writes the line, for which there is room. No `Display`, as `Text` says.
     pub(crate) fn write(self, text: &mut Text)
         requires { text.old.at + length (line_text self) ≤ length text.old.out.now }
         ensures place { text.new.at ≡ text.old.at + length (line_text self) }

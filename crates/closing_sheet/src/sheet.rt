@@ -58,7 +58,7 @@ impl Sums {
         text::len(self.permits) + text::len(self.copies) + 8
     }
 
-    // Writes the last line, for which there is room.
+    // Writes the last line, for which there is room. No `Display`, as `Text` says.
     fn write(self, text: &mut Text)
         requires { text.old.at + length (total_line self.permits self.copies) ≤ length text.old.out.now }
         ensures place { text.new.at ≡ text.old.at + length (total_line self.permits self.copies) }

@@ -14,7 +14,7 @@ use music_counter::serve;
 use music_counter::serve::Note;
 use text::Text;
 
-// Writes the lines of requests, from the notes of them.
+// Writes the lines of requests, from the notes of them. No `Display`, as `Text` says; nor for the last line.
 fn write_lines(notes: &[Note], text: &mut Text)
     requires room { text.old.at + length (lines_noted notes.now) ≤ length text.old.out.now }
     ensures place { text.new.at ≡ text.old.at + length (lines_noted notes.now) }

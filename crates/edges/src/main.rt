@@ -80,8 +80,8 @@ fn cases(text: &[u8]) {
     }
 }
 
-// Each digit goes into the bytes of the case that its line spells. A case has room for the longest table that is tried, 32,001
-// bytes, and for what stands before it.
+// Each digit goes into the bytes of the case that its line spells, two a byte. A case has room for the longest table that is tried, 32,001
+// bytes, and for what stands before it; digits past that are left out.
 fn case(line: &[u8]) {
     let mut case = [0u8; 32100];
     let mut bytes: usize = 0;

@@ -71,7 +71,7 @@ pub struct Note {
     pub answer: u64,
 }
 
-// Writes a note to place i, where there is one.
+// Writes a note to place i, where there is one. By `get_mut` it would have two answers, and has none.
 fn put_note(notes: &mut [Note], i: usize, note: Note)
     ensures { notes.new ≡ set notes.old i note }
 {
@@ -81,7 +81,8 @@ fn put_note(notes: &mut [Note], i: usize, note: Note)
 }
 
 // Serves a whole stream, as calls of one pair, to its end or to the first request that cannot be read; everything before it is
-// carried out. `notes` gets a note of each request, as many as it has places.
+// carried out. `notes` gets a note of each request, as many as it has places. The count is what is answered, so it stays beside the loop; an
+// iterator over the requests would have to say how it ended.
 pub fn all(
     pair: Pair,
     ledger: &mut [u8],

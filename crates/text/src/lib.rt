@@ -20,7 +20,8 @@ pub fn len(n: u64) -> usize
     count
 }
 
-// A buffer and the place in it where the next text goes.
+// A buffer and the place in it where the next text goes. What writes into it are methods and functions that take it, and no `Display`: what
+// `write!` leaves is known of a `String` alone, and that is on the heap.
 #[derive(Drop)]
 pub struct Text<'a> {
     pub out: &'a mut [u8],
