@@ -10,9 +10,9 @@ use formats::half;
 
 // The title whose copy, or whose full entry, an entry is: the kind that is wanted. Most entries of a card have no usable title half.
 fn title_in(card: Card, number: EntryNumber, wanted: EntryKind) -> Option<ContentId>
-    requires { shows_title wanted ≡ true }
-    ensures title { id_or_0 result ≡ title_in wanted (title_at card.entry.titles.now number.0) (rule_at card.entry.rules.now number.0) }
-    ensures numbered { IfSome result (λ id. Within 999 id.0) }
+    ensures title { shows_title wanted ≡ true → id_or_0 result
+        ≡ title_in wanted (title_at card.entry.titles.now number.0) (rule_at card.entry.rules.now number.0) }
+    ensures numbered { shows_title wanted ≡ true → IfSome result (λ id. Within 999 id.0) }
 {
     let entry = card.entry(number);
     let id = half::usable_id(entry.title)?;

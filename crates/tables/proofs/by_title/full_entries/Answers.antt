@@ -14,10 +14,10 @@ loop-k-preserved c =
       | in-Some+then-entries-id-eq0 w ↦
           let t = w.in-Some.ensures in
           rw w.entries-is
-          (is_first _ _ c.loop-k.invariant c.loop-k-test.true t.title t.numbered.to (λ e. omega (arith, t.numbered.from, e)) w.if-entries-id-eq0.true)
+          (is_first _ _ c.loop-k.invariant c.loop-k-test.true (t.title refl) (t.numbered refl).to (λ e. omega (arith, (t.numbered refl).from, e)) w.if-entries-id-eq0.true)
       | in-Some+else-entries-id-eq0 w ↦
-          rw w.entries-is (one_before _ _ c.loop-k.invariant c.loop-k-test.true w.in-Some.ensures.title w.if-entries-id-eq0.false)
-      | in_default w ↦ rw w.entries-is (no_full _ _ c.loop-k.invariant c.loop-k-test.true w.in_default.ensures.title refl)
+          rw w.entries-is (one_before _ _ c.loop-k.invariant c.loop-k-test.true (w.in-Some.ensures.title refl) w.if-entries-id-eq0.false)
+      | in_default w ↦ rw w.entries-is (no_full _ _ c.loop-k.invariant c.loop-k-test.true (w.in_default.ensures.title refl) refl)
     ]
 
 pub returns : goal.returns

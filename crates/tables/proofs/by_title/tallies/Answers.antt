@@ -11,15 +11,15 @@ loop-k-init c = tallied_start _ _
 pub overflow_add-counts : goal.overflow_add-counts
 overflow_add-counts c =
     let t = c.in-Some.ensures in
-    omega (arith, counted_few _ _ c.loop-k.invariant c.loop-k-test.true t.title t.numbered.to (λ e. omega (arith, t.numbered.from, e)))
+    omega (arith, counted_few _ _ c.loop-k.invariant c.loop-k-test.true (t.title refl) (t.numbered refl).to (λ e. omega (arith, (t.numbered refl).from, e)))
 
 pub loop-k-preserved : goal.loop-k-preserved
 loop-k-preserved c =
     elim c.match-title_in.branch [
       | in-Some w ↦
           let t = w.in-Some.ensures in
-          rw w.counts-is (one_copy _ _ c.loop-k.invariant c.loop-k-test.true t.title t.numbered.to (λ e. omega (arith, t.numbered.from, e)))
-      | in_default w ↦ rw w.counts-is (no_copy _ _ c.loop-k.invariant c.loop-k-test.true w.in_default.ensures.title refl)
+          rw w.counts-is (one_copy _ _ c.loop-k.invariant c.loop-k-test.true (t.title refl) (t.numbered refl).to (λ e. omega (arith, (t.numbered refl).from, e)))
+      | in_default w ↦ rw w.counts-is (no_copy _ _ c.loop-k.invariant c.loop-k-test.true (w.in_default.ensures.title refl) refl)
     ]
 
 pub returns : goal.returns
