@@ -1,5 +1,4 @@
 pub mod Sheet
-pub mod Known
 pub mod Demand1
 pub mod Shows
 pub mod History

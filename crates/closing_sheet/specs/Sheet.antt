@@ -1,5 +1,5 @@
 -- The closing sheet of a ledger and a card: a line for each row that is not empty, and the totals. The quotes are document 02's.
-use Rattle.std.specs.Prelude.{codes, ℕ, zero, suc, ◌*◌, List, [], ◌∷◌, ◌++◌, cond, length, get_or, ltb, eqb}
+use Rattle.std.specs.Prelude.{codes, ℕ, zero, suc, ◌*◌, List, [], ◌∷◌, ◌++◌, Option, None, Some, cond, length, get_or, ltb, eqb}
 use Rattle.formats.specs.Head.{rows_of}
 use Rattle.formats.specs.Part.{put}
 use Rattle.formats.specs.declared.head.Pair.{Pair}
@@ -115,3 +115,9 @@ sheet_writing pair b text = cond (eqb (sheet_refusal pair b text) 0) (Wrote (len
 -- and the text afterwards: the sheet at its front, or as it was
 unfoldable pub sheet_written_to : Pair → Buffers → List ℕ → List ℕ
 sheet_written_to pair b text = cond (eqb (sheet_refusal pair b text) 0) (put text 0 (sheet_text b)) text
+
+-- ONLY FOR THE CODE'S HELPERS
+
+-- the line of row c, where it is printed
+abbrev pub printed : Buffers → ℕ → Option Line
+printed b c = cond (is_empty (state_at b c)) None (Some (line_of b c))

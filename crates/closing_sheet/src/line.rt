@@ -8,6 +8,7 @@ use text::Text;
 #[derive(Clone, Copy, Debug, PartialEq, Eq)]
 pub struct Line {
     pub row: u64,
+    // A number: of a row in no state byte 0 is shown.
     pub state: u64,
     pub permits: u64,
     pub rights: u64,

@@ -6,10 +6,9 @@ ghost use Rattle.formats.specs.Refusal.{answer_of};
 ghost use Rattle.requests.specs.Number.{count_values, written_answer};
 ghost use Rattle.calls.specs.Buffers.{buffers_of, state_in, copies};
 ghost use Rattle.calls.specs.Perform.{AreBytes};
-ghost use Rattle.tables.specs.ByTitle.{first_full};
+ghost use Rattle.tables.specs.ByTitle.{first_full, ForEach};
 ghost use Rattle.tables.specs.Shop.{lent};
-ghost use Rattle.closing_sheet.specs.Known.{Known, printed};
-ghost use Rattle.closing_sheet.specs.Sheet.{permits_on_card, rights_on_card, line_of, rows_text, other_than_15, permits_total, copies_total, total_line, sheet_text, sheet_writing, sheet_written_to};
+ghost use Rattle.closing_sheet.specs.Sheet.{permits_on_card, rights_on_card, line_of, printed, rows_text, other_than_15, permits_total, copies_total, total_line, sheet_text, sheet_writing, sheet_written_to};
 
 use crate::line::Line;
 use formats::facts::{ContentId, EntryNumber};
@@ -17,6 +16,7 @@ use formats::head::Pair;
 use formats::refusal::Refusal;
 use formats::row::RowState;
 use formats::{head, row, rule, table};
+use tables::by_title::OnCard;
 use tables::shop::Shop;
 use tables::{by_title, ledger};
 use text::Text;
@@ -92,13 +92,12 @@ fn first_byte(ledger: &[u8], content: ContentId) -> u8
     table::byte(table::slot::<24>(ledger, content.0), 0)
 }
 
-// A shop, with the number of copies and the first full entry of each title on its card.
+// A shop, with what its card has of each title.
 #[derive(Drop)]
 struct Sheet<'a> {
     shop: Shop<'a>,
-    tallies: [u16; 1000],
-    entries: [u16; 1000],
-    ghost known: { Known shop.card.titles.now shop.card.rules.now tallies entries },
+    places: [OnCard; 1000],
+    ghost known: { ForEach shop.card.titles.now shop.card.rules.now places },
     ghost bytes: { AreBytes (lent shop) },
 }
 
@@ -110,8 +109,7 @@ impl<'a> Sheet<'a> {
         let shop = Shop::new(ledger, titles, rules);
         Sheet {
             shop,
-            tallies: by_title::tallies(shop.card),
-            entries: by_title::full_entries(shop.card),
+            places: by_title::places(shop.card),
         }
     }
 }
@@ -121,10 +119,9 @@ impl Sheet<'_> {
     fn copies(&self, content: ContentId) -> u64
         ensures { result ≡ copies content.0 self.now.shop.card.titles.now self.now.shop.card.rules.now }
     {
-        self.tallies
+        self.places
             .get(content.0 as usize)
-            .copied()
-            .map_or(0, u64::from)
+            .map_or(0, |place| u64::from(place.copies))
     }
 
     // The permits and rights in the first full entry of a title; none where it has none.
@@ -136,10 +133,11 @@ impl Sheet<'_> {
             ≡ rights_on_card self.now.shop.card.rules.now
             (first_full content.0 self.now.shop.card.titles.now self.now.shop.card.rules.now) }
     {
-        match self.entries.get(content.0 as usize) {
-            None | Some(0) => Counts::default(),
-            Some(entry) => {
-                let half = self.shop.card.rule_half(EntryNumber(u64::from(*entry)));
+        match self.places.get(content.0 as usize) {
+            None | Some(OnCard { first_full: 0, .. }) => Counts::default(),
+            Some(place) => {
+                let entry = EntryNumber(u64::from(place.first_full));
+                let half = self.shop.card.rule_half(entry);
                 Counts {
                     permits: rule::permits(half),
                     rights: rule::rights(half),

@@ -59,7 +59,8 @@ fn printed(input: &[u8], text: &mut [u8; 20512]) -> usize
     text.at
 }
 
-// Prints the text of what was read, and only that.
+// Prints the text of what was read, and only that. The program `sheet` has this and `main` too, for its own text: they have no library to
+// share, and what is printed is named in the clause.
 fn print(input: &[u8], text: &[u8])
     requires { text.now ≡ counter_printed input.now }
 {

@@ -47,7 +47,7 @@ mod writers;
 ghost use Rattle.std.specs.Prelude.{◌≡◌, ◌≤◌, IfSome};
 ghost use Rattle.edges.specs.Cases.{digit_of, leaves};
 
-use crate::writers::Numbers;
+use crate::writers::Call;
 use formats::table;
 
 fn main() {
@@ -97,7 +97,7 @@ fn case(line: &[u8]) {
     answer(&case, bytes);
 }
 
-// Of a case that has n bytes.
+// Of a case that has n bytes, behind which it is read on as zeros: a table may be longer than its front.
 fn answer(case: &[u8; 32100], n: usize)
     requires { n ≤ 32100 }
 {
@@ -106,16 +106,19 @@ fn answer(case: &[u8; 32100], n: usize)
     if n < start {
         print::unknown();
     } else {
-        let v = writers::numbers_of(case);
+        let call = Call {
+            code,
+            numbers: writers::numbers_of(case),
+        };
         let mut part = *case;
-        texts::write(code, v, &mut part[start..n]);
-        run(code, v, case, &mut part[start..n]);
+        texts::write(call, &mut part[start..n]);
+        run(call, case, &mut part[start..n]);
     }
 }
 
-fn run(code: u8, v: Numbers, case: &[u8], part: &mut [u8])
-    ensures { part.new ≡ leaves code v part.old }
+fn run(call: Call, case: &[u8], part: &mut [u8])
+    ensures { part.new ≡ leaves call.code call.numbers part.old }
 {
-    writers::write(code, v, &mut *part);
-    readers::show(code, v, case, &*part);
+    writers::write(call, &mut *part);
+    readers::show(call, case, &*part);
 }

@@ -1,6 +1,6 @@
 // What a case shows.
 use crate::print;
-use crate::writers::Numbers;
+use crate::writers::Call;
 use closing_sheet::sheet;
 use formats::entry::{Entry, EntryKind};
 use formats::facts::{ContentId, Facts};
@@ -16,8 +16,9 @@ use tables::format;
 use tables::shop::Shop;
 
 // What the part has that a case reads, or holds after a case that writes.
-pub fn show(code: u8, v: Numbers, case: &[u8], part: &[u8]) {
-    match code {
+pub fn show(call: Call, case: &[u8], part: &[u8]) {
+    let v = call.numbers;
+    match call.code {
         0x01 => fields(part),
         0x02 => state(row::state(part)),
         0x03 => read(number::read(part)),
@@ -34,7 +35,7 @@ pub fn show(code: u8, v: Numbers, case: &[u8], part: &[u8]) {
             rule: table::part(part, 16, v[1] as usize),
         }),
         0x31 => closing(v[0], v[1] as usize, v[2] as usize, part),
-        _ => written(code, part),
+        code => written(code, part),
     }
 }
 

@@ -5,16 +5,17 @@ ghost use Rattle.closing_sheet.specs.Sheet.{total_word};
 ghost use Rattle.edges.specs.Cases.{leaves_in_text};
 
 use crate::print;
-use crate::writers::Numbers;
+use crate::writers::Call;
 use formats::field;
 use text::Text;
 
 // Writes in the part and shows the place behind it; any other case leaves the part as it is.
 #[tactic(auto, unfolding(crate::specs::Cases::leaves_in_text))]
-pub fn write(code: u8, v: Numbers, part: &mut [u8])
-    ensures { part.new ≡ leaves_in_text code v part.old }
+pub fn write(call: Call, part: &mut [u8])
+    ensures { part.new ≡ leaves_in_text call.code call.numbers part.old }
 {
-    match code {
+    let v = call.numbers;
+    match call.code {
         0x1e => word(part, v[0] as usize),
         0x3a => number(v[0], field::low_byte(v[1]), part, v[2] as usize),
         _ => {}

@@ -11,6 +11,13 @@ use requests::number;
 // The numbers of a case. Those that it does not have are bytes of its part.
 pub type Numbers = [u64; 8];
 
+// What is called, and with which numbers.
+#[derive(Clone, Copy)]
+pub struct Call {
+    pub code: u8,
+    pub numbers: Numbers,
+}
+
 pub fn numbers_of(case: &[u8]) -> Numbers
     ensures { NumbersOf case.now result }
 {
@@ -22,6 +29,8 @@ pub fn numbers_of(case: &[u8]) -> Numbers
     numbers
 }
 
+// As `requests` puts them together out of nine values, from a place further on: one function for both would want the length as a parameter
+// and the place as a condition, for six lines.
 fn facts(v: Numbers) -> Facts
     ensures { result ≡ facts_from v }
 {
@@ -38,10 +47,11 @@ fn facts(v: Numbers) -> Facts
 // Writes to the part; a case that only reads leaves it as it is. The codes stay numbers: they are the program's input, and `leaves`
 // says of each what it does.
 #[tactic(auto, unfolding(crate::specs::Cases::leaves))]
-pub fn write(code: u8, v: Numbers, part: &mut [u8])
-    ensures { part.new ≡ leaves code v part.old }
+pub fn write(call: Call, part: &mut [u8])
+    ensures { part.new ≡ leaves call.code call.numbers part.old }
 {
-    match code {
+    let v = call.numbers;
+    match call.code {
         0x18 => title::wipe(part, v[0]),
         0x19 => half::wipe(part, v[0]),
         0x1a => row::write_plain(part, field::low_byte(v[0])),

@@ -53,6 +53,8 @@ pub fn is_cci(v: u64) -> bool
     v <= 3 && v != 1
 }
 
+// This range and the next two differ in their last number, and each has a name and a definition: one function over that number would be
+// no plainer where it is used.
 pub fn is_trigger(v: u64) -> bool
     ensures { result ≡ trigger_passes v }
 {

@@ -8,7 +8,8 @@ use crate::table;
 pub fn low_byte(x: u64) -> u8
     ensures { result ≡ x % 256 }
 {
-    // `as` stays where bits are cut off, or where a number becomes an index: the library has no From for either.
+    // `as` stays, here and in the other crates, where bits are cut off, where a number of 64 bits or of 32 becomes an index or an index a
+    // number, and where it is known to fit: the library has a TryFrom for that, whose error could not occur.
     (x & 0xff) as u8
 }
 

@@ -14,7 +14,8 @@ pub enum Pair {
 }
 
 // The first eight bytes of a right title table: "A1" or "P1", byte 2 as 0, version 10h, the size. A word for each pair: put together
-// from the identifier, it takes longer to compare.
+// from the identifier, it takes longer to compare. Titles and rules have functions of their own, here and below, as they have
+// definitions: with the table as a parameter each use would say no more in fewer words.
 #[tactic(auto, unfolding(crate::specs::Head::titles_identifier))]
 fn titles_front(pair: Pair) -> u64
     ensures { result ≡ titles_identifier pair * 2 ^ 48 + 0x1000003e80 }

@@ -4,6 +4,7 @@ use Prim.Native.Nat.{ℕ}
 use mathlib.Core.Path.{◌≡◌, refl, sym, ap, ◌∙◌}
 use mathlib.Core.List.{List}
 use mathlib.Core.Bool.{Bool, true, false, cond, true≢false}
+use mathlib.Core.Logic.{◌≢◌}
 use mathlib.Core.Option.{some, none}
 use borrow.Author.Tests.{ne_eqb}
 use Rattle.std.specs.Prelude.{Result}
@@ -30,10 +31,6 @@ use Rattle.music_counter.specs.Answer.{Answers, SlotInside, Inside}
 slot_where : (x : Bool) (width i : ℕ) (table : List ℕ) → (x ≡ true → SlotInside width (some i) table) → SlotInside width (cond x (some i) none) table
 slot_where true width i table h = h refl
 slot_where false width i table h = tt
-
-pub slot_named : {x : Bool} (width i : ℕ) (table : List ℕ) → SlotInside width (cond x (some i) none) table → x ≡ true → SlotInside width (some i) table
-slot_named {x = true} width i table h e = h
-slot_named {x = false} width i table h e = absurd (true≢false (sym e))
 
 module _ (b : Buffers) (j : ℕ) (on : OnCard b j) where
   title_inside : SlotInside 16 (some j) b.titles
@@ -73,28 +70,33 @@ places pair (Delete j f) b n =
 
 -- A CALL, refused or done
 
--- by what the refusals said of the buffers read, which are the b that were lent
-module _ (pair : Pair) (k : Request) {read b : Buffers} (same : read ≡ b) where
-  -- refused with v, which a `?` hands on, nothing has changed
-  pub refused : (r : Result (Unit {0}) Refusal) (v : Refusal) → IsErrAnd r (λ y. y ≡ v) → number_of v ≡ refusal pair k read → Answers pair k b (answer_number r) b
+module _ (pair : Pair) (k : Request) (b : Buffers) {w : ℕ} (e : w ≡ refusal pair k b) where
+  -- refused, nothing has changed
+  pub refused : w ≢ 0 → Answers pair k b w b
   unfolding perform
-  refused r v h e =
-      let here : number_of v ≡ refusal pair k b = e ∙ ap (refusal pair k) same in
-      simp (handed_on r v h, ne_eqb (refusal pair k b) 0 (λ z. some_number v (here ∙ z)), here)
+  refused other = simp (ne_eqb (refusal pair k b) 0 (λ z. other (e ∙ z)), e)
+
+  -- accepted, its places lie in its tables
+  pub inside : w ≡ 0 → Inside k b
+  unfolding perform
+  inside zero = places pair k b (needs_met pair k b (sym e ∙ zero))
+
+  -- done, its effect is there
+  pub done : {after : Buffers} → w ≡ 0 → after ≡ effect k b → Answers pair k b 0 after
+  unfolding perform
+  done {after} zero same = simp (sym e ∙ zero, same)
+
+-- the same, where the refusals read the buffers that were lent as a shop, and a `?` hands on the refusal v
+module _ (pair : Pair) (k : Request) {read b : Buffers} (same : read ≡ b) where
+  pub handed : (r : Result (Unit {0}) Refusal) (v : Refusal) → IsErrAnd r (λ y. y ≡ v) → number_of v ≡ refusal pair k read → Answers pair k b (answer_number r) b
+  handed r v h e = rw (handed_on r v h) (refused pair k b (e ∙ ap (refusal pair k) same) (some_number v))
 
   module _ (e : 0 ≡ refusal pair k read) where
-    zero : refusal pair k b ≡ 0
-    zero = sym (e ∙ ap (refusal pair k) same)
+    pub accepted : Inside k b
+    accepted = inside pair k b (e ∙ ap (refusal pair k) same) refl
 
-    -- accepted, its places lie in its tables
-    pub inside : Inside k b
-    unfolding perform
-    inside = places pair k b (needs_met pair k b zero)
-
-    -- done, its effect is there
-    pub done : {after : Buffers} → after ≡ effect k b → Answers pair k b 0 after
-    unfolding perform
-    done {after} is = simp (zero, is)
+    pub carried_out : {after : Buffers} → after ≡ effect k b → Answers pair k b 0 after
+    carried_out = done pair k b (e ∙ ap (refusal pair k) same) refl
 
 -- a request that is one of the calls is answered as that call
 pub for_request : (pair : Pair) (b : Buffers) {k k' : Request} {r : ℕ} {after : Buffers} → k ≡ k' → Answers pair k' b r after → Answers pair k b r after

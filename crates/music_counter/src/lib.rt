@@ -25,11 +25,13 @@ pub mod record;
 pub mod register;
 pub mod serve;
 
-// Ledger, titles and rules stay three parameters of what writes them: C lends the rule table read-only to check-out and check-in, and
-// `serve::perform` hands all seven calls the same three.
+// The pair, ledger, titles and rules stay parameters of what writes them. C lends the rule table read-only to check-out and check-in and
+// no card to register, so that `serve::perform` would take a struct of them apart for three of seven calls; and of a struct with three
+// `&mut` in it each contract would also say that the slices are still the caller's, as those of `text::Text` do.
 
 // The seven writers stay apart, where one that takes the writer of the slot as a closure was proved too: each call would have to turn
-// its closure's clause into the equation that stands here once.
+// its closure's clause into the equation that stands here once. What a function that hands out a slot as `&mut` promises of the table is
+// no equation either, but a clause of the logic below. That a slot lies in its table is asked by each, of its own width and place.
 
 // A row is here with these facts.
 fn set_here(ledger: &mut [u8], content: ContentId, facts: Facts)

@@ -56,7 +56,7 @@ pub fn perform(
     }
 }
 
-// How serving a stream ended: done where no byte is left, or what stopped reading; and how many requests were served.
+// How serving a stream ended: done where no byte is left, or what stopped reading; and how many requests were served, in either case.
 #[derive(Clone, Copy)]
 pub struct Served {
     pub stop: Result<(), Refusal>,
@@ -71,7 +71,7 @@ pub struct Note {
     pub answer: u64,
 }
 
-// Writes a note to place i, where there is one. By `get_mut` it would have two answers, and has none.
+// Writes a note to place i, where there is one. `get_mut` would be no plainer: the check proves this by itself, and not that.
 fn put_note(notes: &mut [Note], i: usize, note: Note)
     ensures { notes.new ≡ set notes.old i note }
 {

@@ -71,21 +71,20 @@ impl Argument {
     fn limit(self, value: u64) -> Result<(), Refusal>
         ensures { answer_number result ≡ limit self value }
     {
-        let (passes, refusal) = match self {
-            Argument::Content => (facts::is_numbered(value), Refusal::ContentId),
-            Argument::Entry => (facts::is_numbered(value), Refusal::EntryNumber),
-            Argument::Cci => (facts::is_cci(value), Refusal::Facts),
-            Argument::Trigger => (facts::is_trigger(value), Refusal::Facts),
-            Argument::Rights | Argument::Permits => (facts::is_count(value), Refusal::Facts),
-            Argument::Key => (facts::is_key(value), Refusal::Facts),
-            Argument::Any => return Ok(()),
-        };
-        if passes { Ok(()) } else { Err(refusal) }
+        match self {
+            Argument::Content if !facts::is_numbered(value) => Err(Refusal::ContentId),
+            Argument::Entry if !facts::is_numbered(value) => Err(Refusal::EntryNumber),
+            Argument::Cci if !facts::is_cci(value) => Err(Refusal::Facts),
+            Argument::Trigger if !facts::is_trigger(value) => Err(Refusal::Facts),
+            Argument::Rights | Argument::Permits if !facts::is_count(value) => Err(Refusal::Facts),
+            Argument::Key if !facts::is_key(value) => Err(Refusal::Facts),
+            _ => Ok(()),
+        }
     }
 }
 
-// A request's kind, and the values of its arguments in their order with zeros after them. The kind is its number, as in bytes
-// and in C: the functions that take one take any number, and an enum of seven would ask more of their callers.
+// A request's kind, and the values of its arguments in their order with zeros after them. The kind is its number, which
+// is what is written and read and what C has; the functions that take one take any number, and an enum of seven would ask more.
 #[derive(Clone, Copy, Debug, PartialEq, Eq)]
 pub struct Numbers {
     pub kind: u64,

@@ -1,10 +1,10 @@
--- What a card has of each title: the title that an entry shows, and one more entry in the numbers of all titles.
+-- What a card has of each title: one more entry in the places of all titles.
 -- Assumes nothing.
 use Prim.Native.Nat.{ℕ, zero, suc, ◌+◌, ◌≤◌, ◌<◌}
-use mathlib.Core.Path.{◌≡◌, refl, sym, ap, ◌∙◌}
+use mathlib.Core.Path.{◌≡◌, refl, sym, ap, ap₂, ◌∙◌}
 use mathlib.Core.Logic.{◌≢◌}
 use mathlib.Core.List.{List}
-use mathlib.Core.Bool.{Bool, true, false, ◌&&◌, cond, true≢false}
+use mathlib.Core.Bool.{Bool, true, false, true≢false}
 use native.Mathlib.Omega.{arith}
 use native.Mathlib.Numerals.{add-one}
 use native.Mathlib.Decide.{ℕ_discrete, dec_lt}
@@ -13,67 +13,33 @@ use lib.ListN.{length, get_or, set, replicate, length-set, length-replicate, get
 use lib.Seq.{get_or-set_same, get_or-set_other}
 use borrow.Author.Tests.{eq-eqb, ne_eqb}
 use Rattle.std.specs.Prelude.{Option, Some, None}
-use Rattle.formats.specs.Half.{id_of, usable_of, usable_id}
+use Rattle.formats.specs.Half.{id_of, usable_id}
 use Rattle.formats.specs.declared.facts.ContentId.{ContentId}
 use Rattle.formats.proofs.half.Laws.{without_id, with_id}
 use Rattle.formats.specs.Entry.{kind_of}
 use Rattle.formats.specs.declared.entry.EntryKind.{EntryKind}
 use Rattle.formats.specs.declared.entry.EntryKind.TheVariants.{Free, Copy, Full, Torn}
-use Rattle.formats.proofs.Tests.{refuted}
+use Rattle.formats.proofs.Tests.{and_false}
 use Rattle.formats.proofs.entry.Laws.{Sound, of_copy, of_full}
-use Rattle.calls.specs.Buffers.{title_at, rule_at, copies, full_with, first_of, one, total, Within}
+use Rattle.calls.specs.Buffers.{title_at, rule_at, copies, full_with, first_of, one, total}
 use Rattle.calls.proofs.First.{first_before, first_here, first_not_yet}
 use Rattle.tables.specs.Copies.{copy_at}
-use Rattle.tables.specs.ByTitle.{first_full, is_wanted, title_in, ForEach}
+use Rattle.tables.specs.declared.by_title.OnCard.{OnCard}
+use Rattle.tables.specs.ByTitle.{first_full, nothing, ForEach}
 
--- THE TITLE THAT AN ENTRY SHOWS
+-- a copy or a full entry has a usable title half, with an ID that has a place
+module _ (t r : List ℕ) {found : Option ContentId} (is : found ≡ usable_id t) where
+  sound_found : Sound t → found ≢ None
+  sound_found h none = true≢false (sym h.usable ∙ without_id t is none)
 
-module _ (t r : List ℕ) where
-  -- what is wanted has a sound title half
-  sound : (wanted : EntryKind) → is_wanted wanted (kind_of t r) ≡ true → Sound t
-  sound wanted e = by wanted (kind_of t r) refl e
-    where
-      by : (w k : EntryKind) → kind_of t r ≡ k → is_wanted w k ≡ true → Sound t
-      by Copy Copy is e = (of_copy t r is).title_sound
-      by Full Full is e = (of_full t r is).title_sound
-      by Free k is e = absurd (true≢false (sym e))
-      by Torn k is e = absurd (true≢false (sym e))
-      by Copy Free is e = absurd (true≢false (sym e))
-      by Copy Full is e = absurd (true≢false (sym e))
-      by Copy Torn is e = absurd (true≢false (sym e))
-      by Full Free is e = absurd (true≢false (sym e))
-      by Full Copy is e = absurd (true≢false (sym e))
-      by Full Torn is e = absurd (true≢false (sym e))
+  within : {id : ContentId} → found ≡ Some id → Sound t → id.0 ≤ 999
+  within some h = omega (arith, h.id_to, (with_id t is some).1)
 
--- by the steps of the code: s and q are the halves t and r
-module _ (wanted : EntryKind) {s t : List ℕ} (r : List ℕ) (title : s ≡ t) {found : Option ContentId} (is : found ≡ usable_id s) where
-  pub unusable : found ≡ None → 0 ≡ title_in wanted t r
-  unusable empty =
-      sym (ap (λ (b : Bool). cond b (id_of t) 0)
-      (refuted (λ e. true≢false (sym (sound t r wanted e).usable ∙ ap usable_of (sym title) ∙ without_id s is empty))))
+  pub copy_within : {id : ContentId} → found ≡ Some id → kind_of t r ≡ Copy → id.0 ≤ 999
+  copy_within some e = within some (of_copy t r e).title_sound
 
-  pub within : {id : ContentId} → found ≡ Some id → is_wanted wanted (kind_of t r) ≡ true → Within 999 id.0
-  within {id} some e =
-      let h = sound t r wanted e in
-      let i : id_of t ≡ id.0 = ap id_of (sym title) ∙ (with_id s is some).1 in
-      record { from = omega (arith, h.id_from); to = omega (arith, h.id_to) }
-
--- so an entry is title c's where it shows c
-module _ (wanted : EntryKind) (t r : List ℕ) (c : ℕ) where
-  titles_own : title_in wanted t r ≡ c → c ≢ 0 → (is_wanted wanted (kind_of t r) && eqb (id_of t) c) ≡ true
-  titles_own = by (is_wanted wanted (kind_of t r))
-    where
-      by : (x : Bool) → (cond x (id_of t) 0) ≡ c → c ≢ 0 → (x && eqb (id_of t) c) ≡ true
-      by true e some = eq-eqb (id_of t) c e
-      by false e some = absurd (some (sym e))
-
-  -- and only there. No entry is title 0's
-  not_titles : (title_in wanted t r ≡ c → c ≡ 0) → (is_wanted wanted (kind_of t r) && eqb (id_of t) c) ≡ false
-  not_titles = by (is_wanted wanted (kind_of t r)) refl
-    where
-      by : (x : Bool) → is_wanted wanted (kind_of t r) ≡ x → ((cond x (id_of t) 0) ≡ c → c ≡ 0) → (x && eqb (id_of t) c) ≡ false
-      by true w h = ne_eqb (id_of t) c (λ e. omega (arith, e, h e, (sound t r wanted w).id_from))
-      by false w h = refl
+  pub full_within : {id : ContentId} → found ≡ Some id → kind_of t r ≡ Full → id.0 ≤ 999
+  full_within some e = within some (of_full t r e).title_sound
 
 -- ONE ENTRY MORE
 
@@ -87,152 +53,169 @@ ones (suc n) t = by (t (suc n)) (ones n t)
     by true h = omega arith
     by false h = omega arith
 
-abbrev none_yet : List ℕ
-none_yet = replicate 1000 0
+at_next : (t : ℕ → Bool) (k : ℕ) {b : Bool} → t (k + 1) ≡ b → t (suc k) ≡ b
+at_next t k e = sym (ap t (add-one k)) ∙ e
 
-none_long : 1000 ≡ length none_yet
-none_long = sym (length-replicate {A = ℕ} 1000 0)
-
-zeros : (c : ℕ) → ◌≡◌ {A = ℕ} (get_or none_yet c 0) 0
-zeros c =
-    elim (dec_lt c 1000) [ yes h ↦ get_or-replicate {A = ℕ} 1000 c 0 0 h | no h ↦ get_or-eq_default none_yet 0 {n = c} (omega (arith, none_long)) ]
-
--- what the first k entries have of each title
-module _ (titles rules : List ℕ) where
-  abbrev shown_at : EntryKind → ℕ → ℕ
-  shown_at wanted j = title_in wanted (title_at titles j) (rule_at rules j)
-
-  -- copies
-  pub record Tallied (k : ℕ) (counts : List ℕ) : Type 0 where
-    pub few : k ≤ 999
-    pub size : 1000 ≡ length counts
-    pub at : (c : ℕ) → get_or counts c 0 ≡ total k (λ j. one (copy_at c titles rules j))
-
-  pub tallied_start : Tallied 0 (replicate 1000 0)
+module _ (t : ℕ → Bool) (k : ℕ) {n : ℕ} where
+  same_count : n ≡ total k (λ j. one (t j)) → t (k + 1) ≡ false → n ≡ total (k + 1) (λ j. one (t j))
   unfolding total
-  tallied_start = record { few = omega arith; size = none_long; at = zeros }
+  same_count is e = rw (add-one k) (omega (arith, is, ap one (at_next t k e)))
 
-  module _ {k : ℕ} {counts : List ℕ} (s : Tallied k counts) (h : k < 999) {id : ℕ} (is : id ≡ shown_at Copy (k + 1)) where
-    shown_copy : id ≡ shown_at Copy (suc k)
-    shown_copy = is ∙ ap (shown_at Copy) (add-one k)
+  one_more : n ≡ total k (λ j. one (t j)) → t (k + 1) ≡ true → n + 1 ≡ total (k + 1) (λ j. one (t j))
+  unfolding total
+  one_more is e = rw (add-one k) (omega (arith, is, ap one (at_next t k e)))
 
-    -- of another title
-    same_copies : (c : ℕ) → (id ≡ c → c ≡ 0) → get_or counts c 0 ≡ total (k + 1) (λ j. one (copy_at c titles rules j))
-    unfolding total
-    same_copies c h =
-        rw (add-one k)
-        (omega (arith, s.at c, ap one (not_titles Copy (title_at titles (suc k)) (rule_at rules (suc k)) c (λ e. h (shown_copy ∙ e)))))
+  stays_first : n ≡ first_of k t → n ≢ 0 → n ≡ first_of (k + 1) t
+  stays_first is some = rw (add-one k) (is ∙ sym (first_before t k (λ z. some (is ∙ z))))
 
-    -- an entry that is no copy
-    pub no_copy : id ≡ 0 → Tallied (k + 1) counts
-    no_copy z = record { few = omega arith; size = s.size; at = λ c. same_copies c (λ e. sym e ∙ z) }
+  same_first : n ≡ first_of k t → t (k + 1) ≡ false → n ≡ first_of (k + 1) t
+  same_first is e =
+      elim (ℕ_discrete n 0) [
+        | yes z ↦ rw (add-one k) (z ∙ sym (first_not_yet t k (sym is ∙ z) (at_next t k e)))
+        | no some ↦ stays_first is some
+      ]
 
-    module _ (few : id ≤ 999) (copy : id ≢ 0) where
-      -- how many there are before it
-      pub counted_few : get_or counts id 0 ≤ 999
-      counted_few = omega (arith, s.at id, ones k (λ j. copy_at id titles rules j))
+  is_first : n ≡ first_of k t → n ≡ 0 → t (k + 1) ≡ true → k + 1 ≡ first_of (k + 1) t
+  is_first is z e = rw (add-one k) (sym (first_here t k (sym is ∙ z) (at_next t k e)))
 
-      -- of the title itself
-      one_more_lem : get_or counts id 0 + 1 ≡ total (k + 1) (λ j. one (copy_at id titles rules j))
-      unfolding total
-      one_more_lem =
-          rw (add-one k)
-          (omega (arith, s.at id, ap one (titles_own Copy (title_at titles (suc k)) (rule_at rules (suc k)) id (sym shown_copy) copy)))
+-- WHAT THE FIRST K ENTRIES HAVE OF EACH TITLE
 
-      -- a copy
-      pub one_copy : Tallied (k + 1) (set counts id (get_or counts id 0 + 1))
-      one_copy =
-          record {
-            few = omega arith;
-            size = s.size ∙ sym (length-set counts id (get_or counts id 0 + 1));
-            at = λ c.
-                elim (ℕ_discrete c id) [
-                  | yes e ↦ rw e (get_or-set_same counts id (get_or counts id 0 + 1) 0 (omega (arith, s.size)) ∙ one_more_lem)
-                  | no ne ↦
-                      get_or-set_other counts id c (get_or counts id 0 + 1) 0 ne ∙ same_copies c (λ e. absurd (ne (sym e)))
-                ];
-          }
-
-  pub tallied_all : {k : ℕ} {counts : List ℕ} → Tallied k counts → 999 ≤ k → ForEach (λ c. copies c titles rules) counts
-  unfolding copies
-  tallied_all {k} s h =
-      let few = s.few in
-      let e : k ≡ 999 = omega arith in
-      record { size = s.size; at = λ c. s.at c ∙ ap (λ (n : ℕ). total n (λ j. one (copy_at c titles rules j))) e }
-
-  -- the first full entries
+module _ (titles rules : List ℕ) where
   abbrev full_at : ℕ → ℕ → Bool
   full_at c j = full_with c (title_at titles j) (rule_at rules j)
 
-  pub record Found (k : ℕ) (entries : List ℕ) : Type 0 where
+  pub record Found (k : ℕ) (places : List OnCard) : Type 0 where
     pub few : k ≤ 999
-    pub size : 1000 ≡ length entries
-    pub at : (c : ℕ) → get_or entries c 0 ≡ first_of k (full_at c)
+    pub size : 1000 ≡ length places
+    pub copies_at : (c : ℕ) → (get_or places c nothing).copies ≡ total k (λ j. one (copy_at c titles rules j))
+    pub first_full_at : (c : ℕ) → (get_or places c nothing).first_full ≡ first_of k (full_at c)
 
-  pub found_start : Found 0 (replicate 1000 0)
-  unfolding first_of
-  found_start = record { few = omega arith; size = none_long; at = zeros }
+  pub found_start : Found 0 (replicate 1000 nothing)
+  unfolding total first_of
+  found_start =
+      let size : 1000 ≡ length (replicate 1000 nothing) = sym (length-replicate {A = OnCard} 1000 nothing) in
+      let at : (c : ℕ) → get_or (replicate 1000 nothing) c nothing ≡ nothing
+      = λ c. elim (dec_lt c 1000) [
+        | yes h ↦ get_or-replicate {A = OnCard} 1000 c nothing nothing h
+        | no h ↦ get_or-eq_default (replicate 1000 nothing) nothing {n = c} (omega (arith, size))
+      ] in
+      record {
+        few = omega arith;
+        size = size;
+        copies_at = λ c. ap (λ (p : OnCard). p.copies) (at c);
+        first_full_at = λ c. ap (λ (p : OnCard). p.first_full) (at c);
+      }
 
-  module _ {k : ℕ} {entries : List ℕ} (s : Found k entries) (h : k < 999) {id : ℕ} (is : id ≡ shown_at Full (k + 1)) where
-    shown_full : id ≡ shown_at Full (suc k)
-    shown_full = is ∙ ap (shown_at Full) (add-one k)
-
-    -- the first of a title that has one before it
-    stays : (c : ℕ) → get_or entries c 0 ≢ 0 → get_or entries c 0 ≡ first_of (k + 1) (full_at c)
-    stays c found = rw (add-one k) (s.at c ∙ sym (first_before (full_at c) k (λ z. found (s.at c ∙ z))))
-
-    -- of another title
-    same_first : (c : ℕ) → (id ≡ c → c ≡ 0) → get_or entries c 0 ≡ first_of (k + 1) (full_at c)
-    same_first c h =
-        elim (ℕ_discrete (get_or entries c 0) 0) [
-          | yes z ↦
-              rw (add-one k)
-              (z
-              ∙ sym
-              (first_not_yet (full_at c) k (sym (s.at c) ∙ z)
-              (not_titles Full (title_at titles (suc k)) (rule_at rules (suc k)) c (λ e. h (shown_full ∙ e)))))
-          | no d ↦ stays c d
-        ]
-
-    -- an entry that is not full
-    pub no_full : id ≡ 0 → Found (k + 1) entries
-    no_full z = record { few = omega arith; size = s.size; at = λ c. same_first c (λ e. sym e ∙ z) }
-
-    -- an entry before it is the title's first
-    pub one_before : get_or entries id 0 ≢ 0 → Found (k + 1) entries
-    one_before found =
-        record {
-          few = omega arith;
-          size = s.size;
-          at = λ c.
-              elim (ℕ_discrete c id) [
-                | yes e ↦ rw e (stays id found)
-                | no ne ↦ same_first c (λ e. absurd (ne (sym e)))
-              ];
-        }
-
-    -- it is the first
-    pub is_first : id ≤ 999 → id ≢ 0 → get_or entries id 0 ≡ 0 → Found (k + 1) (set entries id (k + 1))
-    is_first few full none =
-        record {
-          few = omega arith;
-          size = s.size ∙ sym (length-set entries id (k + 1));
-          at = λ c.
-              elim (ℕ_discrete c id) [
-                | yes e ↦
-                    rw e
-                    (get_or-set_same entries id (k + 1) 0 (omega (arith, s.size))
-                    ∙ rw (add-one k)
-                    (sym
-                    (first_here (full_at id) k (sym (s.at id) ∙ none)
-                    (titles_own Full (title_at titles (suc k)) (rule_at rules (suc k)) id (sym shown_full) full))))
-                | no ne ↦ get_or-set_other entries id c (k + 1) 0 ne ∙ same_first c (λ e. absurd (ne (sym e)))
-              ];
-        }
-
-  pub found_all : {k : ℕ} {entries : List ℕ} → Found k entries → 999 ≤ k → ForEach (λ c. first_full c titles rules) entries
-  unfolding first_full
+  pub found_all : {k : ℕ} {places : List OnCard} → Found k places → 999 ≤ k → ForEach titles rules places
+  unfolding copies first_full
   found_all {k} s h =
       let few = s.few in
       let e : k ≡ 999 = omega arith in
-      record { size = s.size; at = λ c. s.at c ∙ ap (λ (n : ℕ). first_of n (full_at c)) e }
+      record {
+        size = s.size;
+        copies_at = λ c. s.copies_at c ∙ ap (λ (n : ℕ). total n (λ j. one (copy_at c titles rules j))) e;
+        first_full_at = λ c. s.first_full_at c ∙ ap (λ (n : ℕ). first_of n (full_at c)) e;
+      }
+
+  pub copies_few : {k : ℕ} {places : List OnCard} → Found k places → (c : ℕ) → (get_or places c nothing).copies ≤ 999
+  copies_few {k} s c = let few = s.few in omega (arith, s.copies_at c, ones k (λ j. copy_at c titles rules j))
+
+  -- the next entry
+  module _ {k : ℕ} {places : List OnCard} (s : Found k places) (more : k < 999) {t r : List ℕ} (title : t ≡ title_at titles (k + 1)) (rule : r ≡ rule_at rules (k + 1)) where
+    -- is neither a copy nor full
+    pub neither : kind_of t r ≢ Copy → kind_of t r ≢ Full → Found (k + 1) places
+    neither copy full = by (kind_of t r) (ap₂ kind_of (sym title) (sym rule)) copy full
+      where
+        none : ((c : ℕ) → copy_at c titles rules (k + 1) ≡ false) → ((c : ℕ) → full_at c (k + 1) ≡ false) → Found (k + 1) places
+        none copy full =
+            record {
+              few = omega arith;
+              size = s.size;
+              copies_at = λ c. same_count (λ j. copy_at c titles rules j) k (s.copies_at c) (copy c);
+              first_full_at = λ c. same_first (full_at c) k (s.first_full_at c) (full c);
+            }
+
+        by : (x : EntryKind) → kind_of (title_at titles (k + 1)) (rule_at rules (k + 1)) ≡ x → x ≢ Copy → x ≢ Full → Found (k + 1) places
+        by Free e copy full = none (λ c. rw e refl) (λ c. rw e refl)
+        by Torn e copy full = none (λ c. rw e refl) (λ c. rw e refl)
+        by Copy e copy full = absurd (copy refl)
+        by Full e copy full = absurd (full refl)
+
+    -- has no usable title half
+    pub unusable : {found : Option ContentId} → found ≡ usable_id t → found ≡ None → Found (k + 1) places
+    unusable is none = neither (λ e. sound_found t r is (of_copy t r e).title_sound none) (λ e. sound_found t r is (of_full t r e).title_sound none)
+
+    -- has one, with this ID
+    module _ {found : Option ContentId} (usable : found ≡ usable_id t) {id : ContentId} (some : found ≡ Some id) where
+      abbrev place : OnCard
+      place = get_or places id.0 nothing
+
+      id_is : id_of (title_at titles (k + 1)) ≡ id.0
+      id_is = ap id_of (sym title) ∙ (with_id t usable some).1
+
+      own : eqb (id_of (title_at titles (k + 1))) id.0 ≡ true
+      own = eq-eqb (id_of (title_at titles (k + 1))) id.0 id_is
+
+      other : {c : ℕ} → c ≢ id.0 → eqb (id_of (title_at titles (k + 1))) c ≡ false
+      other {c} ne = ne_eqb (id_of (title_at titles (k + 1))) c (λ e. ne (sym e ∙ id_is))
+
+      -- of another title there is what there was
+      other_copies : {c : ℕ} → c ≢ id.0 → (get_or places c nothing).copies ≡ total (k + 1) (λ j. one (copy_at c titles rules j))
+      other_copies {c} ne = same_count (λ j. copy_at c titles rules j) k (s.copies_at c) (rw (other ne) (and_false _))
+
+      other_first : {c : ℕ} → c ≢ id.0 → (get_or places c nothing).first_full ≡ first_of (k + 1) (full_at c)
+      other_first {c} ne = same_first (full_at c) k (s.first_full_at c) (rw (other ne) (and_false _))
+
+      -- so the place of its own title is the one that changes
+      changed : (p : OnCard) → id.0 ≤ 999 → p.copies ≡ total (k + 1) (λ j. one (copy_at id.0 titles rules j)) → p.first_full ≡ first_of (k + 1) (full_at id.0)
+          → Found (k + 1) (set places id.0 p)
+      changed p few copied first =
+          let here : get_or (set places id.0 p) id.0 nothing ≡ p = get_or-set_same places id.0 p nothing (omega (arith, s.size)) in
+          record {
+            few = omega arith;
+            size = s.size ∙ sym (length-set places id.0 p);
+            copies_at = λ c.
+                elim (ℕ_discrete c id.0) [
+                  | yes e ↦ rw (e, here) copied
+                  | no ne ↦ rw (get_or-set_other places id.0 c p nothing ne) (other_copies ne)
+                ];
+            first_full_at = λ c.
+                elim (ℕ_discrete c id.0) [
+                  | yes e ↦ rw (e, here) first
+                  | no ne ↦ rw (get_or-set_other places id.0 c p nothing ne) (other_first ne)
+                ];
+          }
+
+      pub one_copy : kind_of t r ≡ Copy → Found (k + 1) (set places id.0 (record { copies = place.copies + 1; first_full = place.first_full }))
+      one_copy copy =
+          let e : kind_of (title_at titles (k + 1)) (rule_at rules (k + 1)) ≡ Copy = ap₂ kind_of (sym title) (sym rule) ∙ copy in
+          changed _ (copy_within t r usable some copy)
+          (one_more (λ j. copy_at id.0 titles rules j) k (s.copies_at id.0) (rw (e, own) refl))
+          (same_first (full_at id.0) k (s.first_full_at id.0) (rw e refl))
+
+      module _ (full : kind_of t r ≡ Full) where
+        full_is : kind_of (title_at titles (k + 1)) (rule_at rules (k + 1)) ≡ Full
+        full_is = ap₂ kind_of (sym title) (sym rule) ∙ full
+
+        same_copies : (c : ℕ) → (get_or places c nothing).copies ≡ total (k + 1) (λ j. one (copy_at c titles rules j))
+        same_copies c = same_count (λ j. copy_at c titles rules j) k (s.copies_at c) (rw full_is refl)
+
+        -- an entry before it is the title's first
+        pub one_before : place.first_full ≢ 0 → Found (k + 1) places
+        one_before found =
+            record {
+              few = omega arith;
+              size = s.size;
+              copies_at = same_copies;
+              first_full_at = λ c.
+                  elim (ℕ_discrete c id.0) [
+                    | yes e ↦ rw e (stays_first (full_at id.0) k (s.first_full_at id.0) found)
+                    | no ne ↦ other_first ne
+                  ];
+            }
+
+        -- it is the first
+        pub first_one : place.first_full ≡ 0 → Found (k + 1) (set places id.0 (record { copies = place.copies; first_full = k + 1 }))
+        first_one none =
+            changed _ (full_within t r usable some full) (same_copies id.0)
+            (is_first (full_at id.0) k (s.first_full_at id.0) none (rw (full_is, own) refl))

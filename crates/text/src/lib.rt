@@ -21,7 +21,8 @@ pub fn len(n: u64) -> usize
 }
 
 // A buffer and the place in it where the next text goes. What writes into it are methods and functions that take it, and no `Display`: what
-// `write!` leaves is known of a `String` alone, and that is on the heap.
+// `write!` leaves is known of a `String` alone, and that is on the heap. Each says too that the slice is still the one that was lent
+// (`name`), and asks for room for what it writes: an invariant is of one moment, and knows neither.
 #[derive(Drop)]
 pub struct Text<'a> {
     pub out: &'a mut [u8],

@@ -1,2 +1,1 @@
-pub mod Requests
 pub mod Demands

@@ -26,8 +26,7 @@ use Rattle.calls.specs.Perform.{AreBytes}
 use Rattle.text.specs.Text.{decimal, field, line}
 use Rattle.text.proofs.Decimal.{field_length, field_listed, length_most}
 use Rattle.closing_sheet.specs.declared.line.Line.{Line}
-use Rattle.closing_sheet.specs.Sheet.{line_of, line_text, row_text, rows_text, other_than_15, permits_added, copies_added, permits_total, copies_total, total_word, total_line, sheet_text}
-use Rattle.closing_sheet.specs.Known.{printed}
+use Rattle.closing_sheet.specs.Sheet.{line_of, line_text, row_text, rows_text, other_than_15, permits_added, copies_added, permits_total, copies_total, total_word, total_line, sheet_text, printed}
 use Rattle.closing_sheet.proofs.line.Laws.{permits_most, line_copies, line_listed, line_most}
 
 -- ONE ROW

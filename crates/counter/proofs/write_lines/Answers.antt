@@ -1,11 +1,8 @@
 -- `counter::write_lines` meets its contract.
 -- Assumes nothing.
-use mathlib.Core.Path.{refl, ◌∙◌}
-use Rattle.counter.proofs.Laws.{writing_start, writing_next, writing_all}
+use mathlib.Core.Path.{◌∙◌}
+use Rattle.counter.proofs.Laws.{writing_next, writing_all}
 use Rattle.counter.proofs.write_lines.Goals as goal
-
-pub loop-note-init : goal.loop-note-init
-loop-note-init c = record { lines = writing_start c.args.notes.now c.args.text.now.out.now c.args.text.now.at c.requires.room; name = refl }
 
 pub loop-note-preserved : goal.loop-note-preserved
 loop-note-preserved c =

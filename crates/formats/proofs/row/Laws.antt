@@ -12,9 +12,10 @@ use lib.Bits.{bit_and, bit_or, or_shifted}
 use lib.Pow.{pow-add, shl_exact, shl_lt}
 use borrow.Author.Tests.{ne_eqb, eqb-true}
 use borrow.Rule.Slice.PartMut.{put_mid}
+use Rattle.formats.specs.Answer.{Answer, case}
 use Rattle.formats.specs.Part.{part, put, replaced}
 use Rattle.formats.specs.Field.{number, bytes_of}
-use Rattle.formats.specs.Facts.{in_range}
+use Rattle.formats.specs.Facts.{fact_values, in_range}
 use Rattle.formats.specs.Row.{facts_of, state_of, here_row, plain_row, with_permits}
 use Rattle.formats.specs.declared.row.RowState.{RowState}
 use Rattle.formats.specs.declared.row.RowState.TheVariants.{Empty, Here, Away, Gone, NoState}
@@ -28,6 +29,37 @@ use Rattle.formats.specs.Bytes.{Bytes}
 use Rattle.formats.proofs.Bytes.{none, more, bytes, then, zeros, field, bytes_put}
 use Rattle.formats.proofs.Cells.{cells, of_cells}
 use Rattle.formats.proofs.facts.Laws.{Ranges, ranges, in_range_lem, facts_same, permitting}
+
+-- "byte 0 state (0 empty, 1 here, 2 away on the card, 3 gone)", with the facts of a row that is here; 4 for bytes that are no
+-- state
+unfoldable pub state_answer : RowState → Answer
+state_answer Empty = case 0 []
+state_answer (Here f) = case 1 (fact_values f)
+state_answer Away = case 2 []
+state_answer Gone = case 3 []
+state_answer NoState = case 4 []
+
+-- a state back from its number and values
+facts_from : List ℕ → Facts
+facts_from vs =
+    record { cci = get_or vs 0 0; trigger = get_or vs 1 0; rights = get_or vs 2 0; permits = get_or vs 3 0; title_key = get_or vs 4 0; sti_key = get_or vs 5 0 }
+
+state_from : Answer → RowState
+state_from a =
+    cond (eqb a.number 0) Empty
+    (cond (eqb a.number 1) (Here (facts_from a.values)) (cond (eqb a.number 2) Away (cond (eqb a.number 3) Gone NoState)))
+
+state_back : (s : RowState) → state_from (state_answer s) ≡ s
+unfolding state_answer facts_from state_from
+state_back Empty = refl
+state_back (Here f) = refl
+state_back Away = refl
+state_back Gone = refl
+state_back NoState = refl
+
+-- states with the same answer are the same
+pub same_state : {x y : RowState} → state_answer x ≡ state_answer y → x ≡ y
+same_state {x} {y} e = sym (state_back x) ∙ ap state_from e ∙ state_back y
 
 -- bytes that are no state are none, whatever their length
 either_way : (b : Bool) → cond b NoState NoState ≡ NoState

@@ -12,7 +12,7 @@ use borrow.Author.Tests.{eq-eqb, ne_eqb, leb-true}
 use lib.Dec.{leb}
 use lib.ListN.{length, take, drop, length-append, length-drop}
 use lib.Seq.{take-add, drop-append_seam, drop-append-le}
-use Rattle.formats.specs.Answer.{Answer}
+use Rattle.formats.specs.Answer.{Answer, case}
 use Rattle.requests.specs.Number.{NumberRead, Number, Refused as NoNumber, groups, read_number}
 use Rattle.requests.specs.Forms.{Below}
 use Rattle.requests.specs.Request.{ArgumentsRead, Values, Fault, RequestRead, Read, Refused, limit, kind_limit, schema, kind_of, values_of, request_of, numbers, written, first_limit, limit_of, with_value, read_arguments, as_request, read_request, request_values, request_answer, reading_of}
@@ -162,6 +162,15 @@ request_again (Delete j f) = refl
 -- the kind and the values make the request
 same_values : {q p : Request} → kind_of q ≡ kind_of p → values_of q ≡ values_of p → q ≡ p
 same_values {q} {p} k v = sym (request_again q) ∙ ap₂ request_of k v ∙ request_again p
+
+-- the paper's number and values of each case of a request: its kind and its arguments
+unfoldable pub call_answer : Request → Answer
+call_answer q = case (kind_of q) (values_of q)
+
+-- requests whose numbers and values are the same are the same
+pub same_call : {q p : Request} → call_answer q ≡ call_answer p → q ≡ p
+unfolding call_answer
+same_call e = same_values (ap (λ (a : Answer). a.number) e) (ap (λ (a : Answer). a.values) e)
 
 -- readings whose numbers and values are the same are the same
 pub same_request : {r q : RequestRead} → request_answer r ≡ request_answer q → r ≡ q

@@ -23,9 +23,3 @@ loop-byte-preserved c =
     let few = c.in_default.ensures in
     let byte = c.type_inv.field c.loop-byte.byte-index in
     read_next c.loop-byte.invariant c.loop-byte-test.true (omega (arith, few.cases, c.loop-byte-test.true)) c.from.ensures (omega (arith, c.from.ensures, byte.fits))
-
-pub returns : goal.returns
-returns c =
-    let l = c.args.field.now in
-    let few = c.in_default.ensures in
-    c.loop-byte.invariant.so_far ∙ ap number (take_all c.loop-byte.byte-index l c.loop-byte-test.false ∙ sym (take_all 8 l (omega (arith, few.cases))))

@@ -1,15 +1,15 @@
 -- `music_counter::check_out::check_out` meets its contract: refused, or done.
 -- Assumes nothing.
-use Rattle.music_counter.proofs.Answers.{refused, inside, done}
+use Rattle.music_counter.proofs.Answers.{handed, accepted, carried_out}
 use Rattle.music_counter.proofs.check_out.check_out.Goals as goal
 
 pub returns-in_err-refusal : goal.returns-in_err-refusal
-returns-in_err-refusal c = refused _ _ c.new-shop.ensures _ _ c.from_residual.ensures.1 c.in_err-refusal.ensures
+returns-in_err-refusal c = handed _ _ c.new-shop.ensures _ _ c.from_residual.ensures.1 c.in_err-refusal.ensures
 
 pub apply-requires : goal.apply-requires
 apply-requires c =
-    let i = inside _ _ c.new-shop.ensures c.in_ok-refusal.ensures in
+    let i = accepted _ _ c.new-shop.ensures c.in_ok-refusal.ensures in
     record { row = i.row; title = i.title; rule = tt }
 
 pub returns : goal.returns
-returns c = done _ _ c.new-shop.ensures c.in_ok-refusal.ensures (c.apply.ensures _)
+returns c = carried_out _ _ c.new-shop.ensures c.in_ok-refusal.ensures (c.apply.ensures _)

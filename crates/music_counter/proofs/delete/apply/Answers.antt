@@ -1,15 +1,8 @@
 -- `music_counter::delete::apply` meets its contract: a full entry, or a copy.
 -- Assumes nothing.
 use Rattle.std.proofs.Common.{arith}
-use Rattle.music_counter.proofs.Answers.{slot_named}
 use Rattle.music_counter.proofs.Effects.{deleted, deleted_copy}
 use Rattle.music_counter.proofs.delete.apply.Goals as goal
-
-pub set_plain-requires : goal.set_plain-requires
-set_plain-requires c = rw c.content-content.ensures (slot_named 24 _ _ c.requires.row (grind arith))
-
-pub wipe_rule-requires : goal.wipe_rule-requires
-wipe_rule-requires c = slot_named 32 _ _ c.requires.rule (grind arith)
 
 pub returns-then-eq : goal.returns-then-eq
 returns-then-eq c =

@@ -1,13 +1,13 @@
 -- `music_counter::move_in::move_in` meets its contract: refused, or done.
 -- Assumes nothing.
-use Rattle.music_counter.proofs.Answers.{refused, inside, done}
+use Rattle.music_counter.proofs.Answers.{handed, accepted, carried_out}
 use Rattle.music_counter.proofs.move_in.move_in.Goals as goal
 
 pub returns-in_err-refusal : goal.returns-in_err-refusal
-returns-in_err-refusal c = refused _ _ c.new-shop.ensures _ _ c.from_residual.ensures.1 (c.in_err-refusal.ensures _)
+returns-in_err-refusal c = handed _ _ c.new-shop.ensures _ _ c.from_residual.ensures.1 (c.in_err-refusal.ensures _)
 
 pub apply-requires : goal.apply-requires
-apply-requires c = inside _ _ c.new-shop.ensures (c.in_ok-refusal.ensures _)
+apply-requires c = accepted _ _ c.new-shop.ensures (c.in_ok-refusal.ensures _)
 
 pub returns : goal.returns
-returns c = done _ _ c.new-shop.ensures (c.in_ok-refusal.ensures _) c.apply.ensures
+returns c = carried_out _ _ c.new-shop.ensures (c.in_ok-refusal.ensures _) c.apply.ensures

@@ -3,7 +3,7 @@
 use Rattle.std.proofs.Common.{◌≡◌, ap, arith, length}
 use Rattle.std.proofs.lemmas.Result.{MatchResult-at_err}
 use Rattle.formats.specs.Refusal.{answer_number}
-use Rattle.music_counter.proofs.Serving.{start, finished, faulted, room, fewer, served}
+use Rattle.music_counter.proofs.Serving.{start, finished, faulted, fewer, served}
 use Rattle.music_counter.proofs.serve.all.Goals as goal
 
 pub loop-rest-init : goal.loop-rest-init
@@ -14,9 +14,6 @@ returns-in_default c =
     let some : length c.loop-rest.rest.now ≡ 0 → ⊥ = grind arith in
     faulted c.loop-rest.invariant _ c.read-found.ensures some c.in_default.is c.map.result
     (ap answer_number (MatchResult-at_err _ _ _ c.in_default.is c.map.ensures.cases))
-
-pub overflow_add-count : goal.overflow_add-count
-overflow_add-count c = omega (arith, room c.loop-rest.invariant _ c.read-found.ensures c.in-Ok.is)
 
 pub loop-rest-smaller : goal.loop-rest-smaller
 loop-rest-smaller c = fewer c.loop-rest.invariant _ c.read-found.ensures c.in-Ok.is c.remainder-rest.ensures
