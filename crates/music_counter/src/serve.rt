@@ -71,7 +71,7 @@ pub struct Note {
     pub answer: u64,
 }
 
-// Writes a note to place i, where there is one. `get_mut` would be no plainer: the check proves this by itself, and not that.
+// Writes a note to place i, where there is one. `get_mut` would be no plainer: this the check proves alone, that would want two answers.
 fn put_note(notes: &mut [Note], i: usize, note: Note)
     ensures { notes.new ≡ set notes.old i note }
 {

@@ -18,6 +18,7 @@ use formats::row::RowState;
 use tables::ledger;
 use tables::shop::Shop;
 
+// Register tests two of these three, for conditions of its own: one list of conditions for each call, and one function.
 #[tactic(auto, unfolding(calls::specs::Refusal::first))]
 fn arguments(content: ContentId, entry: EntryNumber, facts: Facts) -> Result<(), Refusal>
     ensures { (hash : ℕ) → answer_number result ≡ first (argument_conditions (Record content entry facts hash)) }

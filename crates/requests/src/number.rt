@@ -48,8 +48,9 @@ pub fn len(x: u64) -> usize
     (x.max(1).ilog2() / 7 + 1) as usize
 }
 
-// The place stays beside the buffer, since it may lie past the end.
-// Writes `x` from place `at` of `out` on, as many of its bytes as there is room for, and answers the place after them.
+// Writes `x` from place `at` of `out` on, as many of its bytes as there is room for, and answers the place after them. The place stays beside
+// the buffer, since it may lie past the end; and the loop is over places, since after `iter_mut().enumerate().skip(at)` nothing is
+// known of the bytes.
 pub fn write_at(x: u64, out: &mut [u8], at: usize) -> usize
     ensures place { result ≡ at + length (fitting out.old at (groups x)) }
     ensures bytes { out.new ≡ put out.old at (fitting out.old at (groups x)) }

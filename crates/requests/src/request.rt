@@ -128,7 +128,8 @@ pub fn kind_limit(kind: u64) -> Result<(), Refusal>
     }
 }
 
-// The values of register, with zeros after them.
+// The values of register, with zeros after them. With one function for these and the next, which puts facts from a place on, the writer of
+// requests has 1,090 instructions and not 739.
 fn register_values(content: ContentId, facts: Facts) -> [u64; 9]
     ensures { result ≡ content.0 ∷ (fact_values facts ++ (0 ∷ 0 ∷ [])) }
 {
@@ -281,7 +282,7 @@ fn read_arguments(s: &[u8], kind: u64) -> Result<Read<[u64; 9]>, Refusal>
     })
 }
 
-// The number of a request's kind.
+// The number of a request's kind, of which a stream is noted. `numbers_of` has it too: a conversion of both would be the same seven arms.
 pub fn kind(request: Request) -> u64
     ensures { result ≡ kind_of request }
 {

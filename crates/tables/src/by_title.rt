@@ -6,14 +6,15 @@ use formats::entry::EntryKind;
 use formats::facts::EntryNumber;
 use formats::half;
 
-// What a card has of one title: how many copies, and its first full entry; 0, which is no entry's number, where it has none.
+// What a card has of one title: how many copies, and its first full entry; 0, which is no entry's number, where it has none. An `Option`
+// there would be turned back to 0 for `first_of`, which the statements on the sheet rest on, and make the places larger.
 #[derive(Clone, Copy, Debug, Default, PartialEq, Eq)]
 pub struct OnCard {
     pub copies: u16,
     pub first_full: u16,
 }
 
-// What a card has of each title, in that title's place. Most entries of a card have no usable title half. By `let .. else` with a `continue`
+// What a card has of each title, in that title's place. Most entries of a card have no usable title half. With `let .. else` and a `continue`
 // for those the sheet takes up to a quarter longer.
 #[tactic(auto, using(crate::proofs::PerTitle::copy_within, crate::proofs::PerTitle::full_within))]
 pub fn places(card: Card) -> [OnCard; 1000]
