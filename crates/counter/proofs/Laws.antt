@@ -61,9 +61,6 @@ pub record Writing (notes : List Note) (text₀ : List ℕ) (at₀ : ℕ) (text 
   pub room : at₀ + length (lines_noted notes) ≤ length text₀
   pub storing : Storing (lines_noted notes) text₀ at₀ text at (lines_noted (drop i notes))
 
-pub writing_start : (notes : List Note) (text : List ℕ) (at : ℕ) → at + length (lines_noted notes) ≤ length text → Writing notes text at text at 0
-writing_start notes text at room = record { room = room; storing = start (lines_noted notes) text at }
-
 module _ {notes : List Note} {text₀ : List ℕ} {at₀ : ℕ} {text : List ℕ} {at i : ℕ} (w : Writing notes text₀ at₀ text at i) where
   -- the two fields of the next line were written
   pub writing_next : (e : Note) → i < length notes → {at' : ℕ} {text' : List ℕ}

@@ -2,6 +2,5 @@ pub mod Fresh
 pub mod Counting
 pub mod PerTitle
 pub mod Three
-pub mod Rows
 pub mod Demand1
 pub mod History

@@ -99,11 +99,6 @@ unfolding Good read_arguments
 good [] s = form_none s
 good (a ∷ rest) s = good_next a rest s (read_number s) refl (λ k. good rest (drop k s))
 
--- no fault has the number 0
-pub fault_positive : (sch : List Argument) (s : List ℕ) {w : ℕ} → read_arguments sch s ≡ Fault w → 0 < w
-unfolding Good
-fault_positive sch s e = rw e at (good sch s)
-
 -- reading written values, with anything after them, yields them and exactly their bytes
 reading_undoes_writing_arguments : (sch : List Argument) (vs t : List ℕ) → length vs ≡ length sch → first_limit sch vs ≡ 0 → Below vs
     → read_arguments sch (numbers vs ++ t) ≡ Values vs (length (numbers vs))

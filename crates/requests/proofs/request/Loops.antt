@@ -60,15 +60,6 @@ filled_limit (MoveOut j h f) = refl
 filled_limit (MoveIn c j h) = refl
 filled_limit (Delete j f) = refl
 
-pub values_few : (q : Request) → length (values_of q) ≤ 9
-values_few (Register c f) = omega arith
-values_few (Record c j f h) = omega arith
-values_few (CheckOut c j) = omega arith
-values_few (CheckIn j f) = omega arith
-values_few (MoveOut j h f) = omega arith
-values_few (MoveIn c j h) = omega arith
-values_few (Delete j f) = omega arith
-
 module _ {q : Request} {kind : ℕ} {vs : List ℕ} (h : Holds q kind vs) where
   pub used_are : take (length (schema kind)) vs ≡ values_of q
   used_are = rw (h.kind_is, h.values_are) (without_zeros q)
