@@ -188,8 +188,8 @@ uint64_t counter_record(bool pair, uint8_t *ledger, size_t ledger_len, uint8_t *
  *
  * Answers 4, 5, 7, 8, 9; 10 where the entry is not free; 11 where the row is above R or not here; 12 where its permits
  * are 0.
- * Done: the entry is a copy, with the row's CCI and title key; the row's permits are one less, or 15 as before. Of the row
- * no other byte changes, and the rule table is only read.
+ * Done: the entry is a copy, with the row's title key, and with CCI 3 where the row has 2, else the row's; the row's permits
+ * are one less, or 15 as before. Of the row no other byte changes, so it keeps its CCI, and the rule table is only read.
  */
 uint64_t counter_check_out(bool pair, uint8_t *ledger, size_t ledger_len, uint8_t *titles, size_t titles_len,
                            const uint8_t *rules, size_t rules_len, uint64_t content, uint64_t entry);

@@ -66,6 +66,12 @@ static inline uint64_t one_less(uint64_t count)
     return count == COUNTER_UNLIMITED ? count : count - 1;
 }
 
+/* The CCI of a copy: one generation is used up. */
+static inline uint64_t copy_cci(uint64_t cci)
+{
+    return cci == 2 ? 3 : cci;
+}
+
 /* ---------------------------------------------------------------- heads */
 
 /* The rows of a ledger, or 0 where its length or head is wrong. */
@@ -400,7 +406,7 @@ uint64_t plain_check_out(bool pair, uint8_t *ledger, size_t ledger_len, uint8_t 
         return COUNTER_STATE_OF_ROW;
     if (row[4] == 0)
         return COUNTER_NOTHING_LEFT;
-    write_title(title, content, row[1], load64(row + 8) >> 8);
+    write_title(title, content, copy_cci(row[1]), load64(row + 8) >> 8);
     row[4] = (uint8_t)one_less(row[4]);
     return COUNTER_DONE;
 }

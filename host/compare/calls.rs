@@ -1,4 +1,4 @@
-//! The eleven operations, by document 01 and requests W1 and W2 of document 02, on tables of either pair: each tests its
+//! The eleven operations, by document 01 and requests W1 to W3 of document 02, on tables of either pair: each tests its
 //! conditions in their order, and changes the tables, or what it writes beside them, only when none of them refuses.
 
 use crate::sheet::{self, MOST_TEXT};
@@ -222,6 +222,11 @@ fn one_more(count: u64) -> u64 {
     if count == UNLIMITED { UNLIMITED } else { count + 1 }
 }
 
+/// The CCI that a copy of a title of this CCI has: "CCI 3 where the row has 2; 0 and 3 pass through".
+fn copy_cci(cci: u64) -> u64 {
+    if cci == 2 { 3 } else { cci }
+}
+
 /// What a title's facts are after a move.
 fn moved(facts: Facts) -> Facts {
     Facts { rights: one_less(facts.rights), ..facts }
@@ -283,7 +288,8 @@ fn check_out(pair: Pair, tables: &mut Tables, content: u64, entry: u64) -> Teste
     entry_of_kind(tables, entry, &[EntryKind::Free])?;
     let mut row = row_in_state(tables, content, RowState::Here)?;
     refuse_unless(row.facts.permits != 0, 12)?;
-    tables.put_title_half(entry, &TitleHalf::written(&row.facts, content));
+    let lent = Facts { cci: copy_cci(row.facts.cci), ..row.facts };
+    tables.put_title_half(entry, &TitleHalf::written(&lent, content));
     row.facts.permits = one_less(row.facts.permits);
     tables.put_row(content, &row);
     Ok(())

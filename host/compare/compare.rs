@@ -60,6 +60,9 @@ impl OfPair {
         if self.titles.with_holder == 0 || self.titles.deleted == 0 {
             return Err(format!("{pair:?}: demand 3 was not tested"));
         }
+        if let Some(cci) = [0, 2, 3].into_iter().find(|cci| self.titles.copies[*cci] == 0) {
+            return Err(format!("{pair:?}: no copy of a title granted with CCI {cci} was tested"));
+        }
         if self.titles.lines_after_deletes == 0 {
             return Err(format!("{pair:?}: no line of a sheet was held to its title's grant after copies were deleted"));
         }
@@ -182,8 +185,9 @@ impl Run {
             let OfPair { titles, other_pair, sti_key_left, .. } = &self.pairs[pair as usize];
             print_line(&format!("{pair:?} on tables of the other pair"), &OfPair::together(other_pair));
             print_line(&format!("{pair:?} with f2 the STI key"), &OfPair::together(sti_key_left));
-            let Titles { with_holder, deleted, lines, lines_after_deletes } = titles;
+            let Titles { with_holder, deleted, copies, lines, lines_after_deletes } = titles;
             println!("{pair:?}: demand 3 tested of {with_holder} titles with a holder and {deleted} whose holder was deleted");
+            print_line(&format!("{pair:?} copies by CCI granted"), copies);
             println!("{pair:?}: {lines} lines of sheets add up to the grant, {lines_after_deletes} of them with copies deleted");
         }
         println!("{} calls, {} sheets and {} requests compared", self.calls, self.sheets, self.requests);

@@ -1,5 +1,5 @@
 //! What demand 3 counts: numbers of calls that were done, from the list of calls and answers alone, against holders and
-//! copies in the bytes, and against the lines of the closing sheet.
+//! copies in the bytes, each with its CCI, and against the lines of the closing sheet.
 
 use std::collections::HashMap;
 use std::fmt::Debug;
@@ -33,12 +33,14 @@ pub struct Counts {
     last_put: HashMap<u64, LastPut>,
 }
 
-/// How many granted titles were tested: those that must have a holder, and those whose holder was deleted. And how many lines of
-/// sheets were held to a grant of at most 14 permits, and of these how many after copies of the title were deleted.
+/// How many granted titles were tested: those that must have a holder, and those whose holder was deleted. How many copies were held
+/// to their title's CCI, by that CCI. And how many lines of sheets were held to a grant of at most 14 permits, and of these how many
+/// after copies of the title were deleted.
 #[derive(Clone, Copy, Default)]
 pub struct Titles {
     pub with_holder: u64,
     pub deleted: u64,
+    pub copies: [u64; 4],
     pub lines: u64,
     pub lines_after_deletes: u64,
 }
@@ -47,6 +49,7 @@ impl Titles {
     pub fn add(&mut self, more: Titles) {
         self.with_holder += more.with_holder;
         self.deleted += more.deleted;
+        self.copies.iter_mut().zip(more.copies).for_each(|(sum, copies)| *sum += copies);
         self.lines += more.lines;
         self.lines_after_deletes += more.lines_after_deletes;
     }
@@ -55,7 +58,8 @@ impl Titles {
 /// What the bytes say of a title.
 struct Standing {
     holders: Vec<Facts>,
-    copies: u64,
+    /// The CCI of each copy.
+    copies: Vec<u64>,
 }
 
 impl Counts {
@@ -112,7 +116,7 @@ impl Counts {
         let (not_granted, standings) = (Title::default(), standings(tables));
         for (content, standing) in standings.iter().enumerate().skip(1) {
             let title = self.titles.get(&(content as u64)).unwrap_or(&not_granted);
-            title.check(standing).map_err(|what| format!("demand 3, title {content}: {what}"))?;
+            title.check(standing, tested).map_err(|what| format!("demand 3, title {content}: {what}"))?;
         }
         let deleted = self.titles.values().filter(|title| title.holders_deleted > 0).count() as u64;
         tested.deleted += deleted;
@@ -127,36 +131,42 @@ impl Counts {
         equal("lines of the sheet", lines.len(), self.titles.len())?;
         for line in &lines {
             let title = self.titles.get(&line.row).ok_or("a line of a title not granted")?;
-            equal("copies on the sheet", line.copies, standings[line.row as usize].copies)?;
+            equal("copies on the sheet", line.copies, standings[line.row as usize].copies.len() as u64)?;
             title.check_line(line, tested).map_err(|what| format!("{line:?} of the sheet: {what}"))?;
         }
         let permits = standings.iter().flat_map(|standing| &standing.holders).map(|facts| facts.permits);
         let permits = permits.filter(|permits| *permits != UNLIMITED).sum();
-        let copies = standings.iter().map(|standing| standing.copies).sum();
+        let copies = standings.iter().map(|standing| standing.copies.len() as u64).sum();
         equal("totals of the sheet", totals, Totals { permits, copies })
     }
 }
 
 impl Title {
-    fn check(&self, standing: &Standing) -> Result<(), String> {
+    fn check(&self, standing: &Standing, tested: &mut Titles) -> Result<(), String> {
+        let copies = standing.copies.len() as u64;
         let Some(granted) = self.granted else {
             let calls = self.check_outs + self.check_ins + self.moves + self.copies_deleted + self.holders_deleted;
             equal("done calls of a title not granted", calls, 0)?;
             equal("holders of a title not granted", standing.holders.len(), 0)?;
-            return equal("copies of a title not granted", standing.copies, 0);
+            return equal("copies of a title not granted", copies, 0);
         };
         equal("grants", self.grants, 1)?;
         if self.holders_deleted > 0 {
             equal("holders after the holder was deleted", standing.holders.len(), 0)?;
-            return equal("copies after the holder was deleted", standing.copies, 0);
+            return equal("copies after the holder was deleted", copies, 0);
         }
         equal("holders", standing.holders.len(), 1)?;
         let facts = standing.holders[0];
         equal("title key", facts.title_key, granted.title_key)?;
         equal("STI key", facts.sti_key, granted.sti_key)?;
-        let accounted = standing.copies + self.check_ins + self.copies_deleted;
+        equal("CCI", facts.cci, granted.cci)?;
+        // Said here once more, since it is the claim and not what a check-out does.
+        let of_copies = if granted.cci == 2 { 3 } else { granted.cci };
+        standing.copies.iter().try_for_each(|cci| equal("CCI of a copy", *cci, of_copies))?;
+        tested.copies[granted.cci as usize] += copies;
+        let accounted = copies + self.check_ins + self.copies_deleted;
         equal("copies, check-ins and copies deleted", accounted, self.check_outs)?;
-        account("permits", granted.permits, facts.permits, standing.copies + self.copies_deleted)?;
+        account("permits", granted.permits, facts.permits, copies + self.copies_deleted)?;
         account("move rights", granted.rights, facts.rights, self.moves)
     }
 

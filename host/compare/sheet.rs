@@ -34,7 +34,7 @@ impl Line {
             RowState::Empty | RowState::Gone | RowState::NoState => None,
         };
         let (permits, rights) = facts.map_or((0, 0), |facts| (facts.permits, facts.rights));
-        Line { row: content, state: u64::from(row.first_byte), permits, rights, copies: on_card.copies }
+        Line { row: content, state: u64::from(row.first_byte), permits, rights, copies: on_card.copies.len() as u64 }
     }
 }
 

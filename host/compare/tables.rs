@@ -480,10 +480,10 @@ impl CardHead {
     }
 }
 
-/// What a card has of one content ID: how many copies, and what its full entries say, in their order.
+/// What a card has of one content ID: the CCI of each copy, and what its full entries say, in their order.
 #[derive(Clone, Default)]
 pub struct OnCard {
-    pub copies: u64,
+    pub copies: Vec<u64>,
     pub full: Vec<Facts>,
 }
 
@@ -566,7 +566,7 @@ impl Tables {
         let mut on_card: HashMap<u64, OnCard> = HashMap::new();
         for entry in self.entries_with_title() {
             match entry.kind() {
-                EntryKind::Copy => on_card.entry(entry.content_id()).or_default().copies += 1,
+                EntryKind::Copy => on_card.entry(entry.content_id()).or_default().copies.push(entry.title.cci),
                 EntryKind::Full => on_card.entry(entry.content_id()).or_default().full.push(entry.facts()),
                 EntryKind::Free | EntryKind::Torn => (),
             }

@@ -532,6 +532,10 @@ fn streams() {
         stream(&list(&done[..n]));
     }
     stream(&list(&refused));
+    // A copy of a title of each CCI: 2 is that of the paper's input.
+    for cci in [0, 3] {
+        stream(&[&form(1, &[1, cci, 0, 1, 1, 5, 6])[..], &request(3, 1, 2)].concat());
+    }
     // Fillers that leave the STI key, of a recorded title that is moved out or deleted.
     let (recorded, key) = (request(2, 2, 1), NAMED.sti_key);
     for f2 in [key, KEY_LIMIT + key, key + 1] {

@@ -20,6 +20,11 @@ fn more(n: u64) -> u64 {
     if n == 15 { 15 } else { n + 1 }
 }
 
+// "CCI 3 where the row has 2; 0 and 3 pass through"
+fn of_copy(cci: u64) -> u64 {
+    if cci == 2 { 3 } else { cci }
+}
+
 const EMPTY: u64 = 0;
 const HERE: u64 = 1;
 const AWAY: u64 = 2;
@@ -127,7 +132,7 @@ impl Shop {
         number
     }
     fn check_out(&mut self, c: u64, j: u64, f: Facts) {
-        self.set_title(j, c, f);
+        self.set_title(j, c, Facts { cci: of_copy(f.cci), ..f });
         self.rows[c as usize][4] = less(f.permits) as u8;
     }
     fn check_in(&mut self, j: u64, f1: u64) {

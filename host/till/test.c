@@ -1,6 +1,6 @@
 /*
- * Tests libtill.a through music_counter.h, call by call, against document 01 and, for picture tables and the closing sheet,
- * requests W1 and W2 of document 02. All that is lent tables runs twice, with those of either pair.
+ * Tests libtill.a through music_counter.h, call by call, against document 01 and, for picture tables, the closing sheet and
+ * the CCI of copies, requests W1 to W3 of document 02. All that is lent tables runs twice, with those of either pair.
  *
  * Before each call the test knows every byte of the buffers; after it, it knows every byte that the paper wants there, since
  * it sets them itself, field by field. All bytes are compared after every call, and so are the guard bytes
@@ -411,6 +411,7 @@ static void after_check_out(void)
 {
     put(&ledger, 24 * a.c + 4, 1, one_less(a.permits));
     title_half(a.j, a.c);
+    put(&titles, 16 * a.j, 1, a.cci == 2 ? 3 : a.cci);
 }
 
 static void after_check_in(void)
@@ -1177,6 +1178,34 @@ static void permits(void)
     }
 }
 
+/* "Check-out writes CCI 3 where the row has 2; 0 and 3 pass through", and the row keeps its own. */
+static void generations(void)
+{
+    static const struct { uint64_t row, copy; } lent[] = {{0, 0x00}, {2, 0x03}, {3, 0x03}};
+
+    for (size_t k = 0; k < COUNT_OF(lent); k++) {
+        begin(named("check-out"), 64, 5, 7);
+        a.cci = lent[k].row;
+        here_row(5);
+        CHECK(named("check-out"), 0);
+        same(__LINE__, "check-out", "first byte", bytes(&titles)[16 * 7], lent[k].copy);
+        same(__LINE__, "check-out", "CCI of the row", bytes(&ledger)[24 * 5 + 1], lent[k].row);
+    }
+}
+
+/* A copy of any CCI comes back or is deleted, whatever its row has: one that says 2 was lent by an older library. */
+static void copies_of_any_cci(const struct function *f)
+{
+    for (uint64_t row_cci = 0; row_cci < 4; row_cci++)
+        for (uint64_t cci = 0; cci < 4; cci++)
+            if (row_cci != 1 && cci != 1) {
+                begin(f, 64, 5, 7);
+                put(&ledger, 24 * 5 + 1, 1, row_cci);
+                put(&titles, 16 * 7, 1, cci);
+                CHECK(f, 0);
+            }
+}
+
 /* Every count of rights, with both triggers: less 1 on a move, 15 unchanged; the permits go along. */
 static void rights(void)
 {
@@ -1830,6 +1859,9 @@ static unsigned long all_with(bool next)
     reserved_bits();
     neighbours();
     permits();
+    generations();
+    copies_of_any_cci(named("check-in"));
+    copies_of_any_cci(named("delete of a copy"));
     rights();
     copies_beside();
     tallies();

@@ -38,13 +38,13 @@ use Rattle.formats.proofs.entry.Laws.{of_free, of_full, kind_copy, kind_full, co
 use Rattle.formats.proofs.row.Laws.{here_length, plain_length, state_here, state_plain_away, state_plain_gone, state_permits, here_facts_lem, here_keys}
 use Rattle.calls.specs.Count.{one_less, one_more}
 use Rattle.calls.specs.Buffers.{Buffers, buffers_of, row_at, title_at, rule_at, state_at, row_facts, here_facts, kind_at, content_at, facts_at, is_full, with_row, Within}
-use Rattle.calls.specs.Effect.{after_move, effect}
+use Rattle.calls.specs.Effect.{copy_cci, after_move, effect}
 use Rattle.calls.specs.Conditions.{conditions}
 use Rattle.calls.specs.Perform.{refusal, perform, AreBytes}
 use Rattle.calls.specs.Needs.{WipesTitleKey, WipesStiKey}
 use Rattle.calls.specs.Untouched.{row_written}
 use Rattle.calls.specs.Work.{RowIs, Recounted, PermitsBecome, FullEntry, TitleWiped, RuleWiped, Left, WorkIsDone, RegisterByLedger, GoneStays}
-use Rattle.calls.proofs.Counts.{less_most, more_most}
+use Rattle.calls.proofs.Counts.{less_most, more_most, copy_cci_of_2, copy_cci_else, copy_cci_small, copy_cci_not_1}
 use Rattle.calls.proofs.Refusals.{carried_out, unchanged}
 use Rattle.calls.proofs.Named.{Deletable, deletes_copy, deletes_holder, Named, named}
 use Rattle.calls.proofs.Passed.{to_ranges, answered, needs_met, OnCard, on_card, its_row, row_in}
@@ -217,14 +217,18 @@ module _ (pair : Pair) (b : Buffers) (are_bytes : AreBytes b) where
       let o = on_card pair (CheckOut c j) b n in
       let f = row_facts b c.0 in
       let i = here_row_lem b c.0 (its_row pair (CheckOut c j) b n) n.here in
-      let half = title_is b j.0 o (title_half f.cci f.title_key c.0) (length_title_half f.cci f.title_key c.0) in
+      let cci = copy_cci f.cci in
+      let small : cci < 4 = copy_cci_small f.cci (omega (arith, i.in_ranges.cci)) in
+      let half = title_is b j.0 o (title_half cci f.title_key c.0) (length_title_half cci f.title_key c.0) in
+      let says = ap cci_of half ∙ title_cci cci f.title_key c.0 small in
       let unusable = (of_free _ _ n.free).rule_unusable in
       record {
         row = permits_become b c.0 (one_less f.permits) _ _ i (less_most f.permits i.in_ranges.permits);
-        copy = kind_is half refl (kind_copy f.cci f.title_key c.0 n.content.from n.content.to (omega (arith, i.in_ranges.cci)) i.in_ranges.kind _ unusable);
-        id = ap id_of half ∙ written_id (title_written_lem f.cci f.title_key c.0) (omega (arith, n.content.to));
-        cci = ap cci_of half ∙ title_cci f.cci f.title_key c.0 (omega (arith, i.in_ranges.cci));
-        title_key = ap key_of half ∙ written_key (title_written_lem f.cci f.title_key c.0) (row_keys b c.0 are_bytes i).0;
+        copy = kind_is half refl (kind_copy cci f.title_key c.0 n.content.from n.content.to small (copy_cci_not_1 f.cci i.in_ranges.kind) _ unusable);
+        id = ap id_of half ∙ written_id (title_written_lem cci f.title_key c.0) (omega (arith, n.content.to));
+        cci_of_2 = λ e. says ∙ copy_cci_of_2 f.cci e;
+        cci_else = λ other. says ∙ copy_cci_else f.cci other;
+        title_key = ap key_of half ∙ written_key (title_written_lem cci f.title_key c.0) (row_keys b c.0 are_bytes i).0;
         title_half = half;
         rules = refl;
       }

@@ -1,6 +1,6 @@
--- The ten examples of the paper's table.
+-- The ten examples of the paper's table, and document 02's of a check-out.
 -- Assumes nothing.
-use Prim.Native.Nat.{ℕ, ◌≤◌}
+use Prim.Native.Nat.{ℕ, ◌≤◌, ◌<◌}
 use mathlib.Core.Path.{◌≡◌, refl, sym, ap, ◌∙◌}
 use mathlib.Core.Logic.{◌≢◌, inl, inr}
 use mathlib.Core.List.{List, ◌++◌}
@@ -8,7 +8,7 @@ use mathlib.Core.Bool.{Bool, true, false, not, ◌&&◌, ◌||◌, true≢false}
 use native.Mathlib.Omega.{arith}
 use native.Mathlib.Decide.{ℕ_discrete}
 use lib.Dec.{leb, eqb}
-use lib.ListN.{length}
+use lib.ListN.{length, get_or}
 use borrow.Author.Tests.{eq-eqb}
 use Rattle.formats.specs.declared.head.Pair.{Pair}
 use Rattle.formats.specs.Field.{number, bytes_of}
@@ -27,10 +27,11 @@ use Rattle.formats.proofs.entry.Laws.{kind_copy, torn_cci, torn_ids}
 use Rattle.formats.proofs.head.Laws.{ledger_passes_lem, titles_pass_lem, table_head_lem, rules_head, rules_pass_lem}
 use Rattle.calls.specs.Count.{one_less, one_more}
 use Rattle.calls.specs.Buffers.{Buffers, row_facts, content_at}
+use Rattle.calls.specs.Effect.{copy_cci}
 use Rattle.calls.specs.Conditions.{all_head_conditions, state_conditions, conditions}
 use Rattle.calls.specs.Perform.{perform}
 use Rattle.calls.specs.Needs.{MetBelow, needs_of}
-use Rattle.calls.specs.Examples.{E1, E2, E3, E4, E5, Moves, E6, E7, E8, ChecksIn, E9, E10, TenExamples}
+use Rattle.calls.specs.Examples.{E1, E2, E3, E4, E5, ChecksOut, OneGeneration, Moves, E6, E7, E8, ChecksIn, E9, E10, TenExamples}
 use Rattle.calls.proofs.Refusals.{of_first, meets, refused_by, holds_not, fails_so}
 use Rattle.calls.proofs.Limits.{after_arguments}
 use Rattle.calls.proofs.Done.{work_is_done}
@@ -60,6 +61,25 @@ example_5 =
       cci_read = refl;
       key_read = refl;
       id_read = refl;
+    }
+
+-- a CCI of which the copy's is `first`
+checks_out : (cci first : ℕ) → copy_cci cci ≡ first → first < 4 → ChecksOut cci first
+unfolding title_half half_bytes
+checks_out cci first e small pair b c j are_bytes n is =
+    let w = work_is_done pair (CheckOut c j) b in
+    let l = w.leaves are_bytes n in
+    let f = row_facts b c.0 in
+    let made : copy_cci f.cci ≡ first = ap copy_cci is ∙ e in
+    (w.answered.done n, ap (λ (t : List ℕ). get_or t 0 0) l.title_half ∙ omega arith)
+
+pub one_generation : OneGeneration
+unfolding copy_cci
+one_generation =
+    record {
+      of_2 = checks_out 2 0x03 refl (omega arith);
+      of_0 = checks_out 0 0x00 refl (omega arith);
+      of_3 = checks_out 3 0x03 refl (omega arith);
     }
 
 -- a test of which only the failing is a condition

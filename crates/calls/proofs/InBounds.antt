@@ -69,7 +69,7 @@ module _ (b : Buffers) (bytes : AreBytes b) where
       let f = row_facts b c.0 in
       record {
         ledger = permits_set c.0 (one_less f.permits);
-        titles = title j.0 _ (title_bytes f.cci f.title_key c.0);
+        titles = title j.0 _ (title_bytes _ f.title_key c.0);
         rules = bytes.rules;
       }
   effect_bytes (CheckIn j f1) =

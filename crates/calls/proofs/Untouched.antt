@@ -79,7 +79,7 @@ module _ (pair : Pair) (b : Buffers) where
       let is = its_row pair (CheckOut c j) b n in
       record {
         rows = row_kept c.0 _ is (permits_long b c.0 (one_less f.permits) is);
-        titles = title_kept j.0 _ (on_card pair (CheckOut c j) b n) (length_title_half f.cci f.title_key c.0);
+        titles = title_kept j.0 _ (on_card pair (CheckOut c j) b n) (length_title_half _ f.title_key c.0);
         rules = all_kept 32 none b.rules;
       }
   effect_keeps (CheckIn j f1) n =

@@ -22,7 +22,7 @@ use Rattle.formats.specs.declared.row.RowState.TheVariants.{NoState}
 use Rattle.formats.proofs.Part.{part_length}
 use Rattle.formats.proofs.Tests.{split, both}
 use Rattle.formats.proofs.head.Laws.{rows_kept}
-use Rattle.calls.specs.Buffers.{kind_at, content_at, facts_at, is_copy, is_full, one, total, copies, Buffers, row_at, title_at, rule_at, state_in, state_at, Within}
+use Rattle.calls.specs.Buffers.{kind_at, content_at, facts_at, cci_at, is_copy, is_full, one, total, copies, Buffers, row_at, title_at, rule_at, state_in, state_at, Within}
 use Rattle.calls.specs.Untouched.{SlotsKept}
 use Rattle.calls.proofs.Slots.{slot_ends, slot_same, slots_kept}
 use Rattle.calls.specs.History.{full_of}
@@ -93,7 +93,7 @@ module _ {old new : List ℕ} {written : Option ℕ} (kept : SlotsKept 24 writte
 -- what an entry is as a place: a free or torn one has nothing
 abbrev pub place_by : EntryKind → ℕ → Facts → Place
 place_by Free c f = vacant
-place_by Copy c f = copy c
+place_by Copy c f = copy c f.cci
 place_by Full c f = full c f
 place_by Torn c f = vacant
 
@@ -110,6 +110,14 @@ full_entry Torn id f c h e = (cc, cc, cc)
 -- what the rows and entries are
 abbrev pub view : Buffers → State
 view b = record { rows = state_at b; places = λ j. place_of (title_at b.titles j) (rule_at b.rules j) }
+
+-- an entry of a kind, as a place; and a copy, with its CCI
+pub place_is : (b : Buffers) (j : ℕ) {k : EntryKind} → kind_at b j ≡ k → (view b).places j ≡ place_by k (content_at b j) (facts_at b j)
+place_is b j e = ap (λ (k : EntryKind). place_by k (content_at b j) (facts_at b j)) e
+
+pub copy_is : (b : Buffers) (j c : ℕ) → kind_at b j ≡ Copy → content_at b j ≡ c → (view b).places j ≡ copy c (cci_at b j)
+unfolding entry_facts
+copy_is b j c e id = place_is b j e ∙ ap (λ (i : ℕ). copy i (cci_at b j)) id
 
 -- COUNTS
 

@@ -2,6 +2,7 @@
 use Rattle.std.specs.Prelude.{ℕ, zero, suc, ◌+◌, ◌*◌, ◌≤◌, List, Bool, true, false, ◌&&◌, cond, leb, eqb}
 use Rattle.formats.specs.Part.{part, put}
 use Rattle.formats.specs.Half.{key_of, id_of}
+use Rattle.formats.specs.Title.{cci_of}
 use Rattle.formats.specs.Rule.{hash_of}
 use Rattle.formats.specs.Entry.{kind_of, entry_facts}
 use Rattle.formats.specs.Head.{rows_of, fresh_ledger, fresh_titles, fresh_rules}
@@ -66,7 +67,10 @@ content_at b j = id_of (title_at b.titles j)
 abbrev pub facts_at : Buffers → ℕ → Facts
 facts_at b j = entry_facts (title_at b.titles j) (rule_at b.rules j)
 
--- the keys in its title half and in its rule half, and its C_HASH
+-- the CCI in its title half, the keys in its title half and in its rule half, and its C_HASH
+abbrev pub cci_at : Buffers → ℕ → ℕ
+cci_at b j = cci_of (title_at b.titles j)
+
 abbrev pub title_key_at : Buffers → ℕ → ℕ
 title_key_at b j = key_of (title_at b.titles j)
 

@@ -1,5 +1,5 @@
 -- What each call changes when it is done.
-use Rattle.std.specs.Prelude.{ℕ, cond}
+use Rattle.std.specs.Prelude.{ℕ, cond, eqb}
 use Rattle.formats.specs.Half.{wiped}
 use Rattle.formats.specs.Title.{title_half}
 use Rattle.formats.specs.Rule.{rule_half, wiped_rule}
@@ -23,6 +23,10 @@ after_move f =
       sti_key = f.sti_key;
     }
 
+-- the CCI of a copy: "check-out writes CCI 3 where the row has 2; 0 and 3 pass through"
+unfoldable pub copy_cci : ℕ → ℕ
+copy_cci cci = cond (eqb cci 2) 3 cci
+
 -- row c with other permits: no byte but 4 changes
 abbrev pub set_permits : ℕ → ℕ → Buffers → Buffers
 set_permits c permits b = with_row c (with_permits (row_at b.ledger c) permits) b
@@ -40,7 +44,8 @@ wipe_entry j f b = wipe_title j f.f1 (with_rule j (wiped_rule (rule_at b.rules j
 
 -- 1 register: row "becomes here with the facts"
 -- 2 record: "row away, entry full with the facts and h"
--- 3 check-out: "title half written with the row's CCI and key; permits less 1, or 15 unchanged. The rule half is untouched."
+-- 3 check-out: "title half written with the row's CCI and key; permits less 1, or 15 unchanged. The rule half is untouched.";
+-- in place of the row's CCI W3 puts that of a copy
 -- 4 check-in: "wiped; permits plus 1, or 15 unchanged"
 -- 5 move out: "row here with the entry's facts; both halves wiped; rights less 1, or 15 unchanged"
 -- 6 move in: "entry full with the row's facts and h; rights less 1, or 15 unchanged; row away"
@@ -50,7 +55,7 @@ effect (Register c f) b = with_row c.0 (here_row f) b
 effect (Record c j f h) b = write_entry c.0 j.0 f h (with_row c.0 (plain_row 2) b)
 effect (CheckOut c j) b =
     let f = row_facts b c.0 in
-    with_title j.0 (title_half f.cci f.title_key c.0) (set_permits c.0 (one_less f.permits) b)
+    with_title j.0 (title_half (copy_cci f.cci) f.title_key c.0) (set_permits c.0 (one_less f.permits) b)
 effect (CheckIn j f1) b =
     let c = content_at b j.0 in
     wipe_title j.0 f1 (set_permits c (one_more (row_facts b c).permits) b)

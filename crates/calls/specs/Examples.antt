@@ -1,4 +1,4 @@
--- "Ten examples to carry as theorems": each line of the paper's table beside its part.
+-- "Ten examples to carry as theorems": each line of the paper's table beside its part. And document 02's example of a check-out.
 use Rattle.std.specs.Prelude.{ℕ, ◌-◌, ◌^◌, ◌≡◌, ◌≢◌, List, [], ◌∷◌, true, false, length, get_or}
 use Rattle.requests.specs.Number.{Number, Refused as NoNumber, groups, read_number}
 use Rattle.requests.specs.Request.{Read, Refused, kind_of as call_of, written, read_request}
@@ -14,7 +14,7 @@ use Rattle.requests.specs.declared.request.Request.{Request}
 use Rattle.requests.specs.declared.request.Request.TheVariants.{CheckOut, CheckIn, MoveOut, MoveIn}
 use Rattle.formats.specs.declared.entry.EntryKind.TheVariants.{Copy, Full, Torn}
 use Rattle.formats.specs.declared.row.RowState.TheVariants.{Here}
-use Rattle.calls.specs.Buffers.{Buffers, state_at, row_facts, kind_at, content_at, facts_at}
+use Rattle.calls.specs.Buffers.{Buffers, title_at, state_at, row_facts, kind_at, content_at, facts_at}
 use Rattle.calls.specs.Perform.{perform, AreBytes}
 use Rattle.calls.specs.Needs.{MetBelow, needs_of, Needs}
 use Rattle.calls.specs.Pairs.{PassesUntil9}
@@ -64,6 +64,20 @@ abbrev pub E5 : Type 0
 E5 =
     CopyHalf 2 0x11223344556677 999
     (0x02 ∷ 0x11 ∷ 0x22 ∷ 0x33 ∷ 0x44 ∷ 0x55 ∷ 0x66 ∷ 0x77 ∷ 0x80 ∷ 0x00 ∷ 0x00 ∷ 0x00 ∷ 0x00 ∷ 0x00 ∷ 0x03 ∷ 0xE7 ∷ [])
+
+-- a check-out from a row with this CCI, where all else that it needs is there, is done, and the first byte of the title half that it
+-- writes is `first`
+abbrev pub ChecksOut : ℕ → ℕ → Type 0
+ChecksOut cci first =
+    (pair : Pair) (b : Buffers) (c : ContentId) (j : EntryNumber) → AreBytes b → Needs pair (CheckOut c j) b → (row_facts b c.0).cci ≡ cci
+    → ((perform pair (CheckOut c j) b).answer ≡ 0) × (get_or (title_at (perform pair (CheckOut c j) b).buffers.titles j.0) 0 0 ≡ first)
+
+-- W3: "Example E5 shows a directly written half and remains; a check-out from such a row has 03 as its first byte"; "0 and 3 pass
+-- through"
+pub record OneGeneration : Type 0 where
+  pub of_2 : ChecksOut 2 0x03
+  pub of_0 : ChecksOut 0 0x00
+  pub of_3 : ChecksOut 3 0x03
 
 -- row c is here with these rights
 pub record RightsInRow (b : Buffers) (c rights : ℕ) : Type 0 where

@@ -7,8 +7,9 @@ use Rattle.formats.specs.declared.facts.Facts.{Facts}
 use Rattle.requests.specs.declared.request.Request.{Request}
 use Rattle.requests.specs.declared.request.Request.TheVariants.{Register, Record, CheckOut, CheckIn, MoveOut, MoveIn, Delete}
 use Rattle.formats.specs.declared.row.RowState.TheVariants.{Here}
-use Rattle.formats.specs.declared.entry.EntryKind.TheVariants.{Full}
-use Rattle.calls.specs.Buffers.{Buffers, state_at, kind_at, content_at, facts_at, is_full, is_here, one, total, copies, fresh}
+use Rattle.formats.specs.declared.entry.EntryKind.TheVariants.{Copy, Full}
+use Rattle.calls.specs.Buffers.{Buffers, state_at, kind_at, content_at, facts_at, cci_at, is_full, is_here, one, total, copies, fresh, Within}
+use Rattle.calls.specs.Effect.{copy_cci}
 use Rattle.calls.specs.Perform.{perform}
 
 -- THE LIST
@@ -178,7 +179,7 @@ pub record Account (granted left used : ℕ) : Type 0 where
   pub counted : granted ≤ 14 → left + used ≡ granted
   pub unlimited : granted ≡ 15 → left ≡ 15
 
--- title c, granted with the facts f, whose actions are acts: "unless its holder was deleted, all four hold"
+-- title c, granted with the facts f, whose actions are acts: "unless its holder was deleted, all four hold", and with them W3
 pub record HolderStands (c : ℕ) (f : Facts) (acts : List Action) (b : Buffers) : Type 0 where
   -- "It has exactly one holder, with the granted keys."
   pub one_holder : holders c b ≡ 1
@@ -186,6 +187,9 @@ pub record HolderStands (c : ℕ) (f : Facts) (acts : List Action) (b : Buffers)
   pub holder : Holder c b facts
   pub title_key : facts.title_key ≡ f.title_key
   pub sti_key : facts.sti_key ≡ f.sti_key
+  -- W3: "a copy has CCI 3 if its title was granted 2, else the granted CCI; the holder's CCI stays as granted"
+  pub cci : facts.cci ≡ f.cci
+  pub cci_of_copies : (j : ℕ) → Within 999 j → kind_at b j ≡ Copy → content_at b j ≡ c → cci_at b j ≡ copy_cci f.cci
   -- "Its check-outs equal its copies plus its check-ins plus its copies deleted."
   pub check_outs : times checked_out acts ≡ copies c b.titles b.rules + times checked_in acts + times copy_deleted acts
   pub permits : Account f.permits facts.permits (copies c b.titles b.rules + times copy_deleted acts)

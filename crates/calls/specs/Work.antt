@@ -5,7 +5,7 @@ use Rattle.std.specs.Prelude.{ℕ, ◌<◌, ◌^◌, ◌≡◌, ◌≢◌, List,
 use Rattle.formats.specs.Part.{part}
 use Rattle.formats.specs.Field.{bytes_of}
 use Rattle.formats.specs.Half.{wiped}
-use Rattle.formats.specs.Title.{cci_of, title_half}
+use Rattle.formats.specs.Title.{title_half}
 use Rattle.formats.specs.Rule.{rule_half, wiped_rule}
 use Rattle.formats.specs.Row.{here_row, plain_row}
 use Rattle.formats.specs.declared.head.Pair.{Pair}
@@ -19,7 +19,8 @@ use Rattle.formats.specs.declared.row.RowState.TheVariants.{Here, Away, Gone}
 use Rattle.requests.specs.declared.request.Request.{Request}
 use Rattle.requests.specs.declared.request.Request.TheVariants.{Register, Record, CheckOut, CheckIn, MoveOut, MoveIn, Delete}
 use Rattle.calls.specs.Count.{one_less, one_more}
-use Rattle.calls.specs.Buffers.{Buffers, buffers_of, row_at, title_at, rule_at, state_at, row_facts, kind_at, content_at, facts_at, title_key_at, sti_key_at, hash_at}
+use Rattle.calls.specs.Buffers.{Buffers, buffers_of, row_at, title_at, rule_at, state_at, row_facts, kind_at, content_at, facts_at, cci_at, title_key_at, sti_key_at, hash_at}
+use Rattle.calls.specs.Effect.{copy_cci}
 use Rattle.calls.specs.Perform.{perform, AreBytes}
 use Rattle.calls.specs.Needs.{AnsweredBy, needs_of, Needs}
 use Rattle.calls.specs.Untouched.{Untouched}
@@ -78,14 +79,16 @@ pub record Recorded (c j : ℕ) (f : Facts) (h : ℕ) (after : Buffers) : Type 0
   pub row : RowIs after c Away (plain_row 2)
   pub entry : FullEntry after j c f h
 
--- 3 check-out: "title half written with the row's CCI and key; permits less 1, or 15 unchanged. The rule half is untouched."
+-- 3 check-out: "title half written with the row's CCI and key; permits less 1, or 15 unchanged. The rule half is untouched.", and of
+-- the CCI W3: "check-out writes CCI 3 where the row has 2; 0 and 3 pass through"
 pub record CheckedOut (c j : ℕ) (b after : Buffers) : Type 0 where
   pub row : PermitsBecome b after c (one_less (row_facts b c).permits)
   pub copy : kind_at after j ≡ Copy
   pub id : content_at after j ≡ c
-  pub cci : cci_of (title_at after.titles j) ≡ (row_facts b c).cci
+  pub cci_of_2 : (row_facts b c).cci ≡ 2 → cci_at after j ≡ 3
+  pub cci_else : (row_facts b c).cci ≢ 2 → cci_at after j ≡ (row_facts b c).cci
   pub title_key : title_key_at after j ≡ (row_facts b c).title_key
-  pub title_half : title_at after.titles j ≡ title_half (row_facts b c).cci (row_facts b c).title_key c
+  pub title_half : title_at after.titles j ≡ title_half (copy_cci (row_facts b c).cci) (row_facts b c).title_key c
   pub rules : after.rules ≡ b.rules
 
 -- 4 check-in: "wiped; permits plus 1, or 15 unchanged"

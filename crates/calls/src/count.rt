@@ -1,8 +1,8 @@
-// Counts of which 15 means unlimited: permits and move rights.
+// Counts of which 15 means unlimited, permits and move rights, and what else a call makes of a title's facts.
 ghost use Rattle.std.specs.Prelude.{◌≡◌};
 ghost use Rattle.calls.specs.Count.{one_less, one_more};
 ghost use Rattle.calls.specs.Conditions.{may_not_move};
-ghost use Rattle.calls.specs.Effect.{after_move};
+ghost use Rattle.calls.specs.Effect.{copy_cci, after_move};
 
 use formats::facts::Facts;
 
@@ -26,6 +26,14 @@ pub fn one_more(n: u64) -> u64
     ensures { result ≡ one_more n }
 {
     if UNLIMITED <= n { n } else { n + 1 }
+}
+
+// The CCI of a copy: one generation is used up by the loan, and free or no more stays what it is.
+#[tactic(auto, unfolding(crate::specs::Effect::copy_cci))]
+pub fn copy_cci(cci: u64) -> u64
+    ensures { result ≡ copy_cci cci }
+{
+    if cci == 2 { 3 } else { cci }
 }
 
 // The facts of a title after a move: one move right less.

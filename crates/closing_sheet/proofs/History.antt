@@ -19,7 +19,7 @@ use Rattle.calls.specs.Buffers.{Buffers, state_at, kind_at, content_at, facts_at
 use Rattle.calls.specs.History.{Action, granted, checked_out, checked_in, moved, copy_deleted, holder_deleted, actions, times, grant, start, run}
 use Rattle.calls.proofs.First.{first_none, first_holds}
 use Rattle.calls.proofs.Views.{inside, view, place_by, full_entry, copies_seen}
-use Rattle.calls.proofs.History.Titles.{Accounts, TitleInvariant}
+use Rattle.calls.proofs.History.Titles.{full, Accounts, TitleInvariant}
 use Rattle.calls.proofs.History.Step.{At, copies_in, fulls_in, holder_found}
 use Rattle.calls.proofs.History.Always.{sound, in_a_state}
 use Rattle.tables.specs.ByTitle.{first_full}
@@ -78,7 +78,7 @@ is_printed b c not-blank in-one =
 -- entry j has title c in full
 pub record HasTitle (b : Buffers) (c j : ℕ) : Type 0 where
   pub some_entry : j ≢ 0
-  pub at : At 999 c (view b) (facts_at b j)
+  pub at : At 999 (view b) (full c (facts_at b j))
 
 first_has : (b : Buffers) (c : ℕ) → fulls_in 999 c (view b) ≢ 0 → HasTitle b c (first_full c b.titles b.rules)
 unfolding first_full
@@ -109,7 +109,7 @@ grant_none (holder_deleted ∷ acts) e f = omega (arith, grant_none acts e f)
 
 module _ (c : ℕ) (acts : List Action) (b : Buffers) where
   abbrev Inv : RowState → Type 0
-  Inv r = TitleInvariant acts (copies_in 999 c (view b)) (fulls_in 999 c (view b)) (At 999 c (view b)) r
+  Inv r = TitleInvariant c acts (copies_in 999 c (view b)) (fulls_in 999 c (view b)) (At 999 (view b)) r
 
   -- a row that is here, away or gone has a line
   has_line : (r : RowState) → state_at b c ≡ r → state_shown r 4 ≢ 0 → state_shown r 4 ≢ 4 → Printed b c

@@ -17,22 +17,24 @@ use Rattle.formats.specs.declared.facts.Fillers.{Fillers}
 use Rattle.requests.specs.declared.request.Request.TheVariants.{Record, CheckOut, CheckIn, MoveOut, MoveIn, Delete}
 use Rattle.calls.specs.Count.{one_less, one_more}
 use Rattle.calls.specs.Buffers.{buffers_of, row_at, title_at, rule_at, state_in, here_facts, is_full}
-use Rattle.calls.specs.Effect.{effect, after_move}
+use Rattle.calls.specs.Effect.{copy_cci, effect, after_move}
 
 -- three buffers, each as it should be
 pub same_buffers : {l t r l' t' r' : List ℕ} → l ≡ l' → t ≡ t' → r ≡ r' → buffers_of l t r ≡ buffers_of l' t' r'
 same_buffers p q r = rw (p, q, r) refl
 
 module _ (l t r : List ℕ) where
-  -- check-out: the row's facts f, and its permits p afterwards
-  pub checked_out_lem : (c : ContentId) (j : EntryNumber) {f : Facts} {p : ℕ} {l' t' : List ℕ} → f ≡ here_facts (state_in l c.0) → p ≡ one_less f.permits
-      → l' ≡ put l (24 * c.0) (with_permits (row_at l c.0) p) → t' ≡ put t (16 * j.0) (title_half f.cci f.title_key c.0)
+  -- check-out: the row's facts f, its permits p afterwards, and the CCI k of the copy
+  pub checked_out_lem : (c : ContentId) (j : EntryNumber) {f : Facts} {p k : ℕ} {l' t' : List ℕ} → f ≡ here_facts (state_in l c.0) → p ≡ one_less f.permits → k ≡ copy_cci f.cci
+      → l' ≡ put l (24 * c.0) (with_permits (row_at l c.0) p) → t' ≡ put t (16 * j.0) (title_half k f.title_key c.0)
       → buffers_of l' t' r ≡ effect (CheckOut c j) (buffers_of l t r)
   unfolding effect
-  checked_out_lem c j {f} e g p q =
+  checked_out_lem c j {f} e g i p q =
       same_buffers
       (p ∙ ap (λ (n : ℕ). put l (24 * c.0) (with_permits (row_at l c.0) n)) (g ∙ ap (λ (x : Facts). one_less x.permits) e))
-      (q ∙ ap (λ (x : Facts). put t (16 * j.0) (title_half x.cci x.title_key c.0)) e)
+      (q
+      ∙ ap (λ (n : ℕ). put t (16 * j.0) (title_half n f.title_key c.0)) i
+      ∙ ap (λ (x : Facts). put t (16 * j.0) (title_half (copy_cci x.cci) x.title_key c.0)) e)
       refl
 
   -- check-in: the ID i in the title half, the facts f of its row, and its permits p afterwards

@@ -21,7 +21,7 @@ use Rattle.calls.proofs.Requests.{kind_tested, writing_numbers_lem, writing_refu
 use Rattle.calls.proofs.Done.{work_is_done, register_by_ledger, gone_stays}
 use Rattle.calls.proofs.Pairs.{of_other_pair, picture_by_f1}
 use Rattle.calls.proofs.Fresh.{rows_by_number, fresh_is_ready}
-use Rattle.calls.proofs.Examples.{ten_examples}
+use Rattle.calls.proofs.Examples.{ten_examples, one_generation}
 use Rattle.calls.proofs.SampleRun.{sample_run, every_call_done}
 use Rattle.calls.proofs.History.Always.{history}
 use Rattle.tables.proofs.Demand1.{demand_1_tables}
@@ -102,6 +102,7 @@ demands =
             number_form = number_form;
             request_form = one_written_form;
             examples = ten_examples;
+            one_generation = one_generation;
             sample_run = sample_run;
             sample_stream = sample_stream;
             decimal_form = decimal_form;

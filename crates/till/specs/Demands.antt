@@ -14,7 +14,7 @@ use Rattle.calls.specs.Requests.{kind_condition, writing_conditions, values_numb
 use Rattle.calls.specs.Work.{WorkIsDone, RegisterByLedger, GoneStays}
 use Rattle.calls.specs.Pairs.{OtherPair, PictureByF1}
 use Rattle.calls.specs.Fresh.{RowsByNumber, FreshIsReady}
-use Rattle.calls.specs.Examples.{TenExamples}
+use Rattle.calls.specs.Examples.{TenExamples, OneGeneration}
 use Rattle.calls.specs.SampleRun.{SampleRun, EveryCallDone}
 use Rattle.calls.specs.History.{History}
 use Rattle.tables.specs.Demand1.{Demand1Tables}
@@ -67,6 +67,7 @@ pub record Demand2 : Type 0 where
   pub number_form : NumberForm
   pub request_form : RequestForm
   pub examples : TenExamples
+  pub one_generation : OneGeneration
   pub sample_run : SampleRun
   pub sample_stream : SampleStream
   -- the closing sheet: its numbers, its lines and its sums

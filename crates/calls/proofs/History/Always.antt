@@ -21,7 +21,8 @@ use Rattle.formats.specs.declared.row.RowState.TheVariants.{Empty, Here, Away, G
 use Rattle.formats.proofs.Tests.{split}
 use Rattle.formats.proofs.row.Laws.{state_zeros}
 use Rattle.formats.proofs.head.Laws.{fresh_rows, fresh_row}
-use Rattle.calls.specs.Buffers.{Buffers, row_at, state_in, state_at, kind_at, content_at, facts_at, is_here, one, fresh, Within}
+use Rattle.calls.specs.Buffers.{Buffers, row_at, state_in, state_at, kind_at, content_at, facts_at, cci_at, is_here, one, fresh, Within}
+use Rattle.calls.specs.Effect.{copy_cci}
 use Rattle.calls.specs.Perform.{perform, AreBytes}
 use Rattle.calls.specs.History.{Answered, Log, last_at, Action, actions, times, grant, Run, next, start, run, holders, Holder, in_row, in_entry, TitleClaim, History}
 use Rattle.calls.proofs.Refusals.{unchanged}
@@ -30,10 +31,10 @@ use Rattle.calls.proofs.Passed.{needs_met}
 use Rattle.calls.proofs.Untouched.{heads_kept}
 use Rattle.calls.proofs.InBounds.{in_bounds}
 use Rattle.calls.proofs.Fresh.{fresh_empty, fresh_free, fresh_bytes}
-use Rattle.calls.proofs.Views.{place_by, view, full_entry, copies_seen, fulls_seen}
+use Rattle.calls.proofs.Views.{place_by, copy_is, view, full_entry, copies_seen, fulls_seen}
 use Rattle.calls.proofs.History.Totals.{total_none}
-use Rattle.calls.proofs.History.Titles.{Place, vacant, copy_in, full_in, TitleInvariant, Accounts, NotGranted, TitleStep, step_register, step_record, step_check_out, step_check_in, step_move_out, step_move_in, step_delete_copy, step_delete_holder}
-use Rattle.calls.proofs.History.Step.{At, Invariant, kept, copies_in, fulls_in, holder_found}
+use Rattle.calls.proofs.History.Titles.{Place, vacant, copy, copy_in, full_in, TitleInvariant, Accounts, NotGranted, TitleStep, step_register, step_record, step_check_out, step_check_in, step_move_out, step_move_in, step_delete_copy, step_delete_holder}
+use Rattle.calls.proofs.History.Step.{At, Invariant, kept, copies_in, fulls_in, copy_at_counts, holder_found}
 use Rattle.calls.proofs.History.Calls.{change}
 
 -- THE START
@@ -73,7 +74,7 @@ module _ (pair : Pair) (rows application card_application : ℕ) (low : 1 ≤ ro
         no_full = total_none 999 _ (λ j l. ap (full_in c) (nothing_there j l));
       }
 
-  title_starts : (c : ℕ) {r : RowState} → Blank r → TitleInvariant (actions c []) (copies_in 999 c (view b₀)) (fulls_in 999 c (view b₀)) (At 999 c (view b₀)) r
+  title_starts : (c : ℕ) {r : RowState} → Blank r → TitleInvariant c (actions c []) (copies_in 999 c (view b₀)) (fulls_in 999 c (view b₀)) (At 999 (view b₀)) r
   title_starts c empty = not_granted c
   title_starts c no_row = not_granted c
 
@@ -121,7 +122,7 @@ always pair (k ∷ ks) w s = always pair ks (next pair k w) (goes_on pair k w s)
 -- A ROW IN A STATE STAYS IN ONE
 
 -- a done call leaves its title's row here, away or gone
-step_states : {d n : ℕ} {G : Facts → Type 0} {a : Action} {r r' : RowState} {q q' : Place} → TitleStep d n G a r q r' q' → r ≢ NoState → r' ≢ NoState
+step_states : {d n : ℕ} {P : Place → Type 0} {a : Action} {r r' : RowState} {q q' : Place} → TitleStep d n P a r q r' q' → r ≢ NoState → r' ≢ NoState
 step_states step_register in_one e = let z : ◌≡◌ {A = ℕ} 0 1 = cc in omega arith
 step_states step_record in_one e = let z : ◌≡◌ {A = ℕ} 0 1 = cc in omega arith
 step_states (step_check_out _) in_one e = let z : ◌≡◌ {A = ℕ} 0 1 = cc in omega arith
@@ -159,8 +160,9 @@ heads_stay pair (k ∷ ks) w h = heads_stay pair ks (next pair k w) (heads_kept 
 -- WHAT IT SAYS OF A TITLE
 
 module _ (c : ℕ) (f : Facts) (acts : List Action) (b : Buffers) where
-  from_accounts : (h : Facts) → Accounts acts h (copies_in 999 c (view b)) → holders c b ≡ 1 → Holder c b h → grant acts ≡ some f → TitleClaim c f acts b
-  from_accounts h accounts one_holder at e =
+  from_accounts : (h : Facts) → Accounts acts h (copies_in 999 c (view b)) → ((x : ℕ) → At 999 (view b) (copy c x) → x ≡ copy_cci h.cci)
+      → holders c b ≡ 1 → Holder c b h → grant acts ≡ some f → TitleClaim c f acts b
+  from_accounts h accounts cci_of_copies one_holder at e =
       let i : accounts.given ≡ f = cc in
       let n = copies_seen c b in
       record {
@@ -172,6 +174,8 @@ module _ (c : ℕ) (f : Facts) (acts : List Action) (b : Buffers) where
               holder = at;
               title_key = rw i at accounts.title_key;
               sti_key = rw i at accounts.sti_key;
+              cci = rw i at accounts.cci;
+              cci_of_copies = λ j l kind id. cci_of_copies (cci_at b j) (j, l, copy_is b j c kind id) ∙ ap copy_cci (rw i at accounts.cci);
               check_outs = rw n accounts.out;
               permits = rw (n, sym i) accounts.permits;
               rights = rw i at accounts.rights;
@@ -183,15 +187,15 @@ module _ (c : ℕ) (f : Facts) (acts : List Action) (b : Buffers) where
   unfolding holders
   holder_count r m row fulls = rw (row, fulls_seen c b, fulls)
 
-  title_claim : (r : RowState) → state_at b c ≡ r → TitleInvariant acts (copies_in 999 c (view b)) (fulls_in 999 c (view b)) (At 999 c (view b)) r → grant acts ≡ some f → TitleClaim c f acts b
+  title_claim : (r : RowState) → state_at b c ≡ r → TitleInvariant c acts (copies_in 999 c (view b)) (fulls_in 999 c (view b)) (At 999 (view b)) r → grant acts ≡ some f → TitleClaim c f acts b
   title_claim Empty row st e = let z : ◌≡◌ {A = ℕ} 0 1 = cc in absurd (omega arith)
-  title_claim (Here h) row st e = from_accounts h st.accounts (holder_count (Here h) 0 row st.no_full) (in_row row) e
+  title_claim (Here h) row st e = from_accounts h st.accounts st.cci_of_copies (holder_count (Here h) 0 row st.no_full) (in_row row) e
   title_claim Away row st e =
       let y = holder_found 999 c (view b) (omega (arith, st.one_full)) in
       let j = y.1.0 in
       let l = y.1.1 in
       let u = full_entry (kind_at b j) (content_at b j) (facts_at b j) c y.0 y.1.2 in
-      from_accounts y.0 (rw st.no_copy (st.accounts y.0 y.1)) (holder_count Away 1 row st.one_full) (in_entry j l.from l.to u.0 u.1 u.2) e
+      from_accounts y.0 (rw st.no_copy (st.accounts y.0 y.1)) (λ x p. absurd (copy_at_counts 999 c (view b) x p st.no_copy)) (holder_count Away 1 row st.one_full) (in_entry j l.from l.to u.0 u.1 u.2) e
   title_claim Gone row st e =
       record {
         granted_once = st.once f;

@@ -13,7 +13,6 @@ use Rattle.formats.specs.Head.{LedgerHead}
 use Rattle.formats.specs.declared.facts.Facts.{Facts}
 use Rattle.requests.specs.declared.request.Request.{Request}
 use Rattle.requests.specs.declared.request.Request.TheVariants.{Register, Record, CheckOut, CheckIn, MoveOut, MoveIn, Delete}
-use Rattle.formats.specs.declared.entry.EntryKind.{EntryKind}
 use Rattle.formats.specs.declared.entry.EntryKind.TheVariants.{Copy, Full}
 use Rattle.formats.specs.declared.row.RowState.{RowState}
 use Rattle.formats.specs.declared.row.RowState.TheVariants.{Here}
@@ -25,12 +24,13 @@ use Rattle.calls.specs.Perform.{perform, AreBytes}
 use Rattle.calls.specs.Untouched.{row_written, title_written}
 use Rattle.calls.specs.Work.{Recounted, Left}
 use Rattle.calls.specs.History.{Log, a_copy, the_holder, puts, last_at, Action, granted, checked_out, checked_in, moved, copy_deleted, holder_deleted, event}
+use Rattle.calls.proofs.Counts.{copy_cci_lem}
 use Rattle.calls.proofs.Named.{deletes_copy, deletes_holder, Named, unnamed}
 use Rattle.calls.proofs.Passed.{none_counts, OnCard, on_card}
-use Rattle.calls.proofs.Views.{place_by, place_of, view, row_else, place_else, copies_seen}
+use Rattle.calls.proofs.Views.{place_by, place_of, place_is, copy_is, view, row_else, place_else, copies_seen}
 use Rattle.calls.proofs.Untouched.{untouched, rule_with_title}
 use Rattle.calls.proofs.Done.{work_is_done}
-use Rattle.calls.proofs.History.Titles.{Place, eqb_self, TitleStep, step_register, step_record, step_check_out, step_check_in, step_move_out, step_move_in, step_delete_copy, step_delete_holder, step_at}
+use Rattle.calls.proofs.History.Titles.{Place, copy, eqb_self, TitleStep, step_register, step_record, step_check_out, step_check_in, step_move_out, step_move_in, step_delete_copy, step_delete_holder, step_at}
 use Rattle.calls.proofs.History.Step.{Agree, At, Invariant, Change, copies_in}
 
 -- facts with other permits, and facts after a move
@@ -48,10 +48,6 @@ other_deleted : (x : Bool) {c d : ℕ} → d ≢ c → cond x (some c) none ≢ 
 other_deleted true ne = other_than ne
 other_deleted false ne = λ e. let z : ◌≡◌ {A = ℕ} 0 1 = cc in omega arith
 
--- an entry of a kind, as a place
-place_is : (b : Buffers) (j : ℕ) {k : EntryKind} → kind_at b j ≡ k → (view b).places j ≡ place_by k (content_at b j) (facts_at b j)
-place_is b j e = ap (λ (k : EntryKind). place_by k (content_at b j) (facts_at b j)) e
-
 module _ (pair : Pair) (log : Log) (b : Buffers) (inv : Invariant 999 log (view b)) (are_bytes : AreBytes b) where
   -- what a call leaves, and the rows and places that it does not write
   module _ (k : Request) where
@@ -68,7 +64,7 @@ module _ (pair : Pair) (log : Log) (b : Buffers) (inv : Invariant 999 log (view 
     wrote : {c j : ℕ} {r : RowState} {q : Place} (a : Action) → OnCard b j → state_at after c ≡ r → (view after).places j ≡ q
         → ((d : ℕ) → d ≢ c → row_written k b ≢ some d) → title_written k ≡ some j
         → event k log ≡ record { title = c; action = a }
-        → TitleStep c (copies_in 999 c (view b)) (At 999 c (view b)) a (state_at b c) ((view b).places j) r q
+        → TitleStep c (copies_in 999 c (view b)) (At 999 (view b)) a (state_at b c) ((view b).places j) r q
         → Agree q (puts k j (last_at j log)) → ((i : ℕ) → i ≢ j → puts k i (last_at i log) ≡ last_at i log)
         → Change 999 k log (view b) (view after)
     wrote {c} {j} a o row place other written e t here elsewhere =
@@ -121,7 +117,7 @@ module _ (pair : Pair) (log : Log) (b : Buffers) (inv : Invariant 999 log (view 
   change (CheckOut c j) n =
       let k = CheckOut c j in
       let l = left k n in
-      wrote k checked_out (on_card pair k b n) (l.row.here ∙ ap Here (same_permits l.row.facts)) (place_is (after k) j.0 l.copy ∙ rw l.id)
+      wrote k checked_out (on_card pair k b n) (l.row.here ∙ ap Here (same_permits l.row.facts)) (copy_is (after k) j.0 c.0 l.copy l.id ∙ ap (copy c.0) (copy_cci_lem _ _ l.cci_of_2 l.cci_else))
       (λ d ne. other_than ne) refl refl (step_at (step_check_out n.permit_left) n.here (place_is b j.0 n.free) refl refl)
       (simp (eqb_self j.0)) (λ i ne. simp (ne_eqb i j.0 ne))
   change (CheckIn j f1) n =
@@ -150,10 +146,10 @@ module _ (pair : Pair) (log : Log) (b : Buffers) (inv : Invariant 999 log (view 
       let l = left k n in
       let other : (d : ℕ) → d ≢ content_at b j.0 → row_written k b ≢ some d = λ d ne. other_deleted (is_full (kind_at b j.0)) ne in
       elim n.deletable [
-        | deletes_copy copy ↦
-            let it = l.of_copy copy in
-            wrote k copy_deleted (on_card pair k b n) (rw it.ledger) (place_is (after k) j.0 it.free) other refl (rw (placed_copy j.0 n.entry copy))
-            (step_at step_delete_copy refl (place_is b j.0 copy) refl refl) tt (λ i ne. refl)
+        | deletes_copy kind ↦
+            let it = l.of_copy kind in
+            wrote k copy_deleted (on_card pair k b n) (rw it.ledger) (place_is (after k) j.0 it.free) other refl (rw (placed_copy j.0 n.entry kind))
+            (step_at step_delete_copy refl (place_is b j.0 kind) refl refl) tt (λ i ne. refl)
         | deletes_holder full away key ↦
             let it = l.of_full full in
             wrote k holder_deleted (on_card pair k b n) it.row.reads (place_is (after k) j.0 it.free) other refl (rw (placed_full j.0 n.entry full))

@@ -2,11 +2,11 @@
 -- log stand here.
 -- Assumes nothing.
 use Prim.Native.Nat.{ℕ, ◌+◌}
-use mathlib.Core.Path.{◌≡◌, refl, sym, subst, ◌∙◌}
+use mathlib.Core.Path.{◌≡◌, refl, sym, ap, subst, ◌∙◌}
 use mathlib.Core.Logic.{◌≢◌, ◌⊎◌, inl, inr}
 use mathlib.Core.List.{List, ◌∷◌}
 use mathlib.Core.Option.{none, some}
-use mathlib.Core.Bool.{true, false}
+use mathlib.Core.Bool.{Bool, true, false, true≢false}
 use native.Mathlib.Omega.{arith}
 use lib.Dec.{eqb}
 use borrow.Author.Tests.{eq-eqb, ne_eqb}
@@ -16,26 +16,32 @@ use Rattle.formats.specs.declared.row.RowState.TheVariants.{Empty, Here, Away, G
 use Rattle.formats.proofs.facts.Laws.{permitting}
 use Rattle.calls.specs.Count.{one_less, one_more}
 use Rattle.calls.specs.Buffers.{one}
-use Rattle.calls.specs.Effect.{after_move}
+use Rattle.calls.specs.Effect.{copy_cci, after_move}
 use Rattle.calls.specs.History.{Action, granted, checked_out, checked_in, moved, copy_deleted, holder_deleted, times, grant, Account}
 use Rattle.calls.proofs.Counts.{less_limited, less_unlimited, more_limited, more_unlimited}
 
--- a place has nothing, a copy of a title, or a title in full with its facts
+-- a place has nothing, a copy of a title with its CCI, or a title in full with its facts
 pub data Place : Type 0 where
   vacant : Place
-  copy : ℕ → Place
+  copy : ℕ → ℕ → Place
   full : ℕ → Facts → Place
 
 -- how many copies of c a place has; whether it has c in full
 abbrev pub copy_in : ℕ → Place → ℕ
 copy_in c vacant = 0
-copy_in c (copy d) = one (eqb d c)
+copy_in c (copy d x) = one (eqb d c)
 copy_in c (full d f) = 0
 
 abbrev pub full_in : ℕ → Place → ℕ
 full_in c vacant = 0
-full_in c (copy d) = 0
+full_in c (copy d x) = 0
 full_in c (full d f) = one (eqb d c)
+
+-- whether a place has anything of c
+abbrev pub of_title : ℕ → Place → Bool
+of_title c vacant = false
+of_title c (copy d x) = eqb d c
+of_title c (full d f) = eqb d c
 
 pub eqb_self : (d : ℕ) → eqb d d ≡ true
 eqb_self d = eq-eqb d d refl
@@ -63,6 +69,7 @@ pub record Accounts (acts : List Action) (h : Facts) (n : ℕ) : Type 0 where
   pub given : Facts
   pub is_grant : grant acts ≡ some given
   pub once : (f : Facts) → times (granted f) acts ≡ 1
+  pub cci : h.cci ≡ given.cci
   pub title_key : h.title_key ≡ given.title_key
   pub sti_key : h.sti_key ≡ given.sti_key
   pub out : times checked_out acts ≡ n + times checked_in acts + times copy_deleted acts
@@ -78,15 +85,16 @@ pub record NotGranted (acts : List Action) (n m : ℕ) : Type 0 where
   pub no_full : m ≡ 0
 
 -- its holder is its row
-pub record HeldInRow (acts : List Action) (n m : ℕ) (h : Facts) : Type 0 where
+pub record HeldInRow (c : ℕ) (acts : List Action) (n m : ℕ) (P : Place → Type 0) (h : Facts) : Type 0 where
   pub no_full : m ≡ 0
   pub accounts : Accounts acts h n
+  pub cci_of_copies : (x : ℕ) → P (copy c x) → x ≡ copy_cci h.cci
 
 -- its holder is at a place
-pub record HeldAtPlace (acts : List Action) (n m : ℕ) (G : Facts → Type 0) : Type 0 where
+pub record HeldAtPlace (c : ℕ) (acts : List Action) (n m : ℕ) (P : Place → Type 0) : Type 0 where
   pub no_copy : n ≡ 0
   pub one_full : m ≡ 1
-  pub accounts : (h : Facts) → G h → Accounts acts h 0
+  pub accounts : (h : Facts) → P (full c h) → Accounts acts h 0
 
 -- its holder was deleted
 pub record HolderGone (acts : List Action) (n m : ℕ) : Type 0 where
@@ -95,25 +103,26 @@ pub record HolderGone (acts : List Action) (n m : ℕ) : Type 0 where
   pub no_copy : n ≡ 0
   pub no_full : m ≡ 0
 
--- the invariant of a title, by its row: acts its actions, n its copies, m the places that have it in full, and G h says that some
--- place has it in full with the facts h
-abbrev pub TitleInvariant : List Action → ℕ → ℕ → (Facts → Type 0) → RowState → Type 0
-TitleInvariant acts n m G Empty = NotGranted acts n m
-TitleInvariant acts n m G (Here h) = HeldInRow acts n m h
-TitleInvariant acts n m G Away = HeldAtPlace acts n m G
-TitleInvariant acts n m G Gone = HolderGone acts n m
-TitleInvariant acts n m G NoState = NotGranted acts n m
+-- the invariant of title c, by its row: acts its actions, n its copies, m the places that have it in full, and P q says that some
+-- place is q
+abbrev pub TitleInvariant : ℕ → List Action → ℕ → ℕ → (Place → Type 0) → RowState → Type 0
+TitleInvariant c acts n m P Empty = NotGranted acts n m
+TitleInvariant c acts n m P (Here h) = HeldInRow c acts n m P h
+TitleInvariant c acts n m P Away = HeldAtPlace c acts n m P
+TitleInvariant c acts n m P Gone = HolderGone acts n m
+TitleInvariant c acts n m P NoState = NotGranted acts n m
 
 -- a done call, as the title d that it belongs to sees it: the action, the row and the place before it, and both after it
-pub data TitleStep (d n : ℕ) (G : Facts → Type 0) : Action → RowState → Place → RowState → Place → Type 0 where
-  step_register : {f : Facts} {q : Place} → TitleStep d n G (granted f) Empty q (Here f) q
-  step_record : {f : Facts} → TitleStep d n G (granted f) Empty vacant Away (full d f)
-  step_check_out : {h : Facts} → h.permits ≢ 0 → TitleStep d n G checked_out (Here h) vacant (Here (permitting h (one_less h.permits))) (copy d)
-  step_check_in : {h : Facts} → TitleStep d n G checked_in (Here h) (copy d) (Here (permitting h (one_more h.permits))) vacant
-  step_move_out : {h : Facts} → G h → h.rights ≢ 0 → TitleStep d n G moved Away (full d h) (Here (after_move h)) vacant
-  step_move_in : {h : Facts} → n ≡ 0 → h.rights ≢ 0 → TitleStep d n G moved (Here h) vacant Away (full d (after_move h))
-  step_delete_copy : {r : RowState} → TitleStep d n G copy_deleted r (copy d) r vacant
-  step_delete_holder : {h : Facts} → TitleStep d n G holder_deleted Away (full d h) Gone vacant
+pub data TitleStep (d n : ℕ) (P : Place → Type 0) : Action → RowState → Place → RowState → Place → Type 0 where
+  step_register : {f : Facts} {q : Place} → TitleStep d n P (granted f) Empty q (Here f) q
+  step_record : {f : Facts} → TitleStep d n P (granted f) Empty vacant Away (full d f)
+  step_check_out : {h : Facts} → h.permits ≢ 0
+      → TitleStep d n P checked_out (Here h) vacant (Here (permitting h (one_less h.permits))) (copy d (copy_cci h.cci))
+  step_check_in : {h : Facts} {x : ℕ} → TitleStep d n P checked_in (Here h) (copy d x) (Here (permitting h (one_more h.permits))) vacant
+  step_move_out : {h : Facts} → P (full d h) → h.rights ≢ 0 → TitleStep d n P moved Away (full d h) (Here (after_move h)) vacant
+  step_move_in : {h : Facts} → n ≡ 0 → h.rights ≢ 0 → TitleStep d n P moved (Here h) vacant Away (full d (after_move h))
+  step_delete_copy : {r : RowState} {x : ℕ} → TitleStep d n P copy_deleted r (copy d x) r vacant
+  step_delete_holder : {h : Facts} → TitleStep d n P holder_deleted Away (full d h) Gone vacant
 
 -- the accounts after each action
 module _ (acts : List Action) (h : Facts) (n n' : ℕ) where
@@ -129,6 +138,7 @@ module _ (acts : List Action) (h : Facts) (n n' : ℕ) where
         given = h;
         is_grant = refl;
         once = λ f. let o = z (granted f) in omega arith;
+        cci = refl;
         title_key = refl;
         sti_key = refl;
         out = omega arith;
@@ -139,15 +149,16 @@ module _ (acts : List Action) (h : Facts) (n n' : ℕ) where
 
   -- after an action that is no grant, from what each account says then
   accounts_next : (a : Action) (h' : Facts) (b : Accounts acts h n) → grant (a ∷ acts) ≡ grant acts → ((f : Facts) → times (granted f) (a ∷ acts) ≡ times (granted f) acts)
-      → h'.title_key ≡ h.title_key → h'.sti_key ≡ h.sti_key
+      → h'.cci ≡ h.cci → h'.title_key ≡ h.title_key → h'.sti_key ≡ h.sti_key
       → times checked_out (a ∷ acts) ≡ n' + times checked_in (a ∷ acts) + times copy_deleted (a ∷ acts)
       → Account b.given.permits h'.permits (n' + times copy_deleted (a ∷ acts)) → Account b.given.rights h'.rights (times moved (a ∷ acts))
       → times holder_deleted (a ∷ acts) ≡ 0 → Accounts (a ∷ acts) h' n'
-  accounts_next a h' b same-grant same-times title_key sti_key out permits rights not_deleted =
+  accounts_next a h' b same-grant same-times cci title_key sti_key out permits rights not_deleted =
       record {
         given = b.given;
         is_grant = same-grant ∙ b.is_grant;
         once = λ f. same-times f ∙ b.once f;
+        cci = cci ∙ b.cci;
         title_key = title_key ∙ b.title_key;
         sti_key = sti_key ∙ b.sti_key;
         out = out;
@@ -159,25 +170,25 @@ module _ (acts : List Action) (h : Facts) (n n' : ℕ) where
   accounts_checked_out : Accounts acts h n → h.permits ≢ 0 → n' ≡ n + 1 → Accounts (checked_out ∷ acts) (permitting h (one_less h.permits)) n'
   unfolding times grant
   accounts_checked_out b l e =
-      accounts_next checked_out (permitting h (one_less h.permits)) b refl (λ f. omega arith) refl refl (omega (arith, b.out))
+      accounts_next checked_out (permitting h (one_less h.permits)) b refl (λ f. omega arith) refl refl refl (omega (arith, b.out))
       (spend b.permits l (omega arith)) (keep b.rights (omega arith)) (omega (arith, b.not_deleted))
 
   accounts_checked_in : Accounts acts h n → n' + 1 ≡ n → Accounts (checked_in ∷ acts) (permitting h (one_more h.permits)) n'
   unfolding times grant
   accounts_checked_in b e =
-      accounts_next checked_in (permitting h (one_more h.permits)) b refl (λ f. omega arith) refl refl (omega (arith, b.out))
+      accounts_next checked_in (permitting h (one_more h.permits)) b refl (λ f. omega arith) refl refl refl (omega (arith, b.out))
       (refund b.permits (omega arith)) (keep b.rights (omega arith)) (omega (arith, b.not_deleted))
 
   accounts_moved : Accounts acts h n → h.rights ≢ 0 → n' ≡ n → Accounts (moved ∷ acts) (after_move h) n'
   unfolding times grant
   accounts_moved b l e =
-      accounts_next moved (after_move h) b refl (λ f. omega arith) refl refl (omega (arith, b.out))
+      accounts_next moved (after_move h) b refl (λ f. omega arith) refl refl refl (omega (arith, b.out))
       (keep b.permits (omega arith)) (spend b.rights l (omega arith)) (omega (arith, b.not_deleted))
 
   accounts_copy_deleted : Accounts acts h n → n' + 1 ≡ n → Accounts (copy_deleted ∷ acts) h n'
   unfolding times grant
   accounts_copy_deleted b e =
-      accounts_next copy_deleted h b refl (λ f. omega arith) refl refl (omega (arith, b.out))
+      accounts_next copy_deleted h b refl (λ f. omega arith) refl refl refl (omega (arith, b.out))
       (keep b.permits (omega arith)) (keep b.rights (omega arith)) (omega (arith, b.not_deleted))
 
   accounts_deleted : Accounts acts h n → (f : Facts) → times (granted f) (holder_deleted ∷ acts) ≡ 1
@@ -185,50 +196,69 @@ module _ (acts : List Action) (h : Facts) (n n' : ℕ) where
   accounts_deleted b f = omega (arith, b.once f)
 
 -- the title that a call belongs to goes on as it should
-module _ (d n m n' m' : ℕ) (G G' : Facts → Type 0) (acts : List Action) where
+module _ (d n m n' m' : ℕ) (P P' : Place → Type 0) (acts : List Action) where
   -- a holder at a place, just put there
-  placed : {acts' : List Action} (f : Facts) (q' : Place) → q' ≡ full d f → m ≡ 0 → ((h : Facts) → G h → m ≢ 0)
-      → ((h : Facts) → G' h → (q' ≡ full d h) ⊎ G h) → Accounts acts' f 0 → (h : Facts) → G' h → Accounts acts' h 0
+  placed : {acts' : List Action} (f : Facts) (q' : Place) → q' ≡ full d f → m ≡ 0 → ((h : Facts) → P (full d h) → m ≢ 0)
+      → ((q : Place) → P' q → (q' ≡ q) ⊎ P q) → Accounts acts' f 0 → (h : Facts) → P' (full d h) → Accounts acts' h 0
   placed {acts'} f q' at z g g' b h x =
-      elim (g' h x) [ inl e ↦ let i : f ≡ h = cc in subst (λ (y : Facts). Accounts acts' y 0) i b | inr y ↦ absurd (g h y z) ]
+      elim (g' (full d h) x) [ inl e ↦ let i : f ≡ h = cc in subst (λ (y : Facts). Accounts acts' y 0) i b | inr y ↦ absurd (g h y z) ]
 
-  pub own : {a : Action} {r r' : RowState} {q q' : Place} → TitleStep d n G a r q r' q'
+  -- all copies, where one was put there or taken away
+  copies_after : (h : Facts) (q' : Place) → ((x : ℕ) → q' ≡ copy d x → x ≡ copy_cci h.cci) → ((q : Place) → P' q → (q' ≡ q) ⊎ P q)
+      → ((x : ℕ) → P (copy d x) → x ≡ copy_cci h.cci) → (x : ℕ) → P' (copy d x) → x ≡ copy_cci h.cci
+  copies_after h q' put g' all x y = elim (g' (copy d x) y) [ inl e ↦ put x e | inr z ↦ all x z ]
+
+  pub own : {a : Action} {r r' : RowState} {q q' : Place} → TitleStep d n P a r q r' q'
       → n' + copy_in d q ≡ n + copy_in d q' → m' + full_in d q ≡ m + full_in d q'
-      → (m ≢ 0 → (h : Facts) × G h) → ((h : Facts) → G h → m ≢ 0) → ((h : Facts) → G' h → (q' ≡ full d h) ⊎ G h)
-      → TitleInvariant acts n m G r → TitleInvariant (a ∷ acts) n' m' G' r'
+      → (m ≢ 0 → (h : Facts) × P (full d h)) → ((h : Facts) → P (full d h) → m ≢ 0) → ((x : ℕ) → P' (copy d x) → n' ≢ 0)
+      → ((q : Place) → P' q → (q' ≡ q) ⊎ P q)
+      → TitleInvariant d acts n m P r → TitleInvariant d (a ∷ acts) n' m' P' r'
   unfolding times
-  own (step_register {f = f}) en em x g g' s = record { no_full = omega arith; accounts = accounts_granted acts f n' 0 s.no_action (omega arith) }
-  own (step_record {f = f}) en em x g g' s =
+  own (step_register {f = f}) en em x g k g' s =
+      record {
+        no_full = omega arith;
+        accounts = accounts_granted acts f n' 0 s.no_action (omega arith);
+        cci_of_copies = λ x y. absurd (k x y (omega arith));
+      }
+  own (step_record {f = f}) en em x g k g' s =
       let b = simp (eqb_self d) at em in
       record {
         no_copy = omega arith;
         one_full = omega arith;
         accounts = placed f (full d f) refl s.no_full g g' (accounts_granted acts f 0 0 s.no_action refl);
       }
-  own (step_check_out {h = h} b) en em x g g' s =
+  own (step_check_out {h = h} b) en em x g k g' s =
       let c = simp (eqb_self d) at en in
-      record { no_full = omega arith; accounts = accounts_checked_out acts h n n' s.accounts b (omega arith) }
-  own (step_check_in {h = h}) en em x g g' s =
+      record {
+        no_full = omega arith;
+        accounts = accounts_checked_out acts h n n' s.accounts b (omega arith);
+        cci_of_copies = copies_after h (copy d (copy_cci h.cci)) (λ x e. cc) g' s.cci_of_copies;
+      }
+  own (step_check_in {h = h}) en em x g k g' s =
       let c = simp (eqb_self d) at en in
-      record { no_full = omega arith; accounts = accounts_checked_in acts h n n' s.accounts (omega arith) }
-  own (step_move_out {h = h} y b) en em x g g' s =
+      record { no_full = omega arith; accounts = accounts_checked_in acts h n n' s.accounts (omega arith); cci_of_copies = copies_after h vacant (λ x e. cc) g' s.cci_of_copies }
+  own (step_move_out {h = h} y b) en em x g k g' s =
       let c = simp (eqb_self d) at em in
-      record { no_full = omega arith; accounts = accounts_moved acts h 0 n' (s.accounts h y) b (omega arith) }
-  own (step_move_in {h = h} z b) en em x g g' s =
+      record {
+        no_full = omega arith;
+        accounts = accounts_moved acts h 0 n' (s.accounts h y) b (omega arith);
+        cci_of_copies = λ x y. absurd (k x y (omega arith));
+      }
+  own (step_move_in {h = h} z b) en em x g k g' s =
       let c = simp (eqb_self d) at em in
       record {
         no_copy = omega arith;
         one_full = omega arith;
         accounts = placed (after_move h) _ refl s.no_full g g' (accounts_moved acts h n 0 s.accounts b (omega arith));
       }
-  own (step_delete_copy {r = Empty}) en em x g g' s = let c = simp (eqb_self d) at en in absurd (omega arith)
-  own (step_delete_copy {r = Here h}) en em x g g' s =
+  own (step_delete_copy {r = Empty}) en em x g k g' s = let c = simp (eqb_self d) at en in absurd (omega arith)
+  own (step_delete_copy {r = Here h}) en em x g k g' s =
       let c = simp (eqb_self d) at en in
-      record { no_full = omega arith; accounts = accounts_copy_deleted acts h n n' s.accounts (omega arith) }
-  own (step_delete_copy {r = Away}) en em x g g' s = let c = simp (eqb_self d) at en in absurd (omega arith)
-  own (step_delete_copy {r = Gone}) en em x g g' s = let c = simp (eqb_self d) at en in absurd (omega arith)
-  own (step_delete_copy {r = NoState}) en em x g g' s = let c = simp (eqb_self d) at en in absurd (omega arith)
-  own (step_delete_holder {h = h}) en em x g g' s =
+      record { no_full = omega arith; accounts = accounts_copy_deleted acts h n n' s.accounts (omega arith); cci_of_copies = copies_after h vacant (λ x e. cc) g' s.cci_of_copies }
+  own (step_delete_copy {r = Away}) en em x g k g' s = let c = simp (eqb_self d) at en in absurd (omega arith)
+  own (step_delete_copy {r = Gone}) en em x g k g' s = let c = simp (eqb_self d) at en in absurd (omega arith)
+  own (step_delete_copy {r = NoState}) en em x g k g' s = let c = simp (eqb_self d) at en in absurd (omega arith)
+  own (step_delete_holder {h = h}) en em x g k g' s =
       let c = simp (eqb_self d) at em in
       let y = x (omega (arith, s.one_full)) in
       record {
@@ -239,11 +269,17 @@ module _ (d n m n' m' : ℕ) (G G' : Facts → Type 0) (acts : List Action) wher
       }
 
 -- a title that a call does not belong to stays as it is
-module _ (acts : List Action) (n m n' m' : ℕ) (G G' : Facts → Type 0) where
-  pub other : (r : RowState) → n' ≡ n → m' ≡ m → ((h : Facts) → G' h → G h) → TitleInvariant acts n m G r → TitleInvariant acts n' m' G' r
+module _ (c : ℕ) (acts : List Action) (n m n' m' : ℕ) (P P' : Place → Type 0) where
+  pub other : (r : RowState) → n' ≡ n → m' ≡ m → ((q : Place) → of_title c q ≡ true → P' q → P q)
+      → TitleInvariant c acts n m P r → TitleInvariant c acts n' m' P' r
   other Empty a b g s = record { no_action = s.no_action; no_grant = s.no_grant; no_copy = omega arith; no_full = omega arith }
-  other (Here h) a b g s = record { no_full = omega arith; accounts = rw a s.accounts }
-  other Away a b g s = record { no_copy = omega arith; one_full = omega arith; accounts = λ h x. s.accounts h (g h x) }
+  other (Here h) a b g s =
+      record {
+        no_full = omega arith;
+        accounts = rw a s.accounts;
+        cci_of_copies = λ x y. s.cci_of_copies x (g (copy c x) (eqb_self c) y);
+      }
+  other Away a b g s = record { no_copy = omega arith; one_full = omega arith; accounts = λ h x. s.accounts h (g (full c h) (eqb_self c) x) }
   other Gone a b g s = record { deleted = s.deleted; once = s.once; no_copy = omega arith; no_full = omega arith }
   other NoState a b g s = record { no_action = s.no_action; no_grant = s.no_grant; no_copy = omega arith; no_full = omega arith }
 
@@ -251,26 +287,27 @@ module _ (acts : List Action) (n m n' m' : ℕ) (G G' : Facts → Type 0) where
 pub record Unaffected (c : ℕ) (q q' : Place) : Type 0 where
   pub copies : copy_in c q ≡ copy_in c q'
   pub fulls : full_in c q ≡ full_in c q'
-  pub holder : (h : Facts) → q' ≡ full c h → q ≡ full c h
+  pub before : (p : Place) → of_title c p ≡ true → q' ≡ p → q ≡ p
 
-module _ (c d n : ℕ) (G : Facts → Type 0) (ne : c ≢ d) where
-  other_full : {h f : Facts} {q : Place} → full d f ≡ full c h → q ≡ full c h
-  other_full e = let i : c ≡ d = cc in absurd (ne i)
-
+module _ (c d n : ℕ) (P : Place → Type 0) (ne : c ≢ d) where
   not_c : eqb d c ≡ false
   not_c = ne_eqb d c (λ e. ne (sym e))
 
-  pub unaffected : {a : Action} {r r' : RowState} {q q' : Place} → TitleStep d n G a r q r' q' → Unaffected c q q'
-  unaffected step_register = record { copies = refl; fulls = refl; holder = λ h e. e }
-  unaffected step_record = record { copies = refl; fulls = simp not_c; holder = λ h e. other_full e }
-  unaffected (step_check_out b) = record { copies = simp not_c; fulls = refl; holder = λ h e. cc }
-  unaffected step_check_in = record { copies = simp not_c; fulls = refl; holder = λ h e. cc }
-  unaffected (step_move_out x b) = record { copies = refl; fulls = simp not_c; holder = λ h e. cc }
-  unaffected (step_move_in z b) = record { copies = refl; fulls = simp not_c; holder = λ h e. other_full e }
-  unaffected step_delete_copy = record { copies = simp not_c; fulls = refl; holder = λ h e. cc }
-  unaffected step_delete_holder = record { copies = refl; fulls = simp not_c; holder = λ h e. cc }
+  -- a place with nothing of c is none of those that have
+  nothing_of_c : {q : Place} (q' : Place) → of_title c q' ≡ false → (p : Place) → of_title c p ≡ true → q' ≡ p → q ≡ p
+  nothing_of_c q' without p has e = absurd (true≢false (sym has ∙ sym (ap (of_title c) e) ∙ without))
+
+  pub unaffected : {a : Action} {r r' : RowState} {q q' : Place} → TitleStep d n P a r q r' q' → Unaffected c q q'
+  unaffected step_register = record { copies = refl; fulls = refl; before = λ p has e. e }
+  unaffected (step_record {f = f}) = record { copies = refl; fulls = simp not_c; before = nothing_of_c (full d f) not_c }
+  unaffected (step_check_out {h = h} b) = record { copies = simp not_c; fulls = refl; before = nothing_of_c (copy d (copy_cci h.cci)) not_c }
+  unaffected step_check_in = record { copies = simp not_c; fulls = refl; before = nothing_of_c vacant refl }
+  unaffected (step_move_out x b) = record { copies = refl; fulls = simp not_c; before = nothing_of_c vacant refl }
+  unaffected (step_move_in {h = h} z b) = record { copies = refl; fulls = simp not_c; before = nothing_of_c (full d (after_move h)) not_c }
+  unaffected step_delete_copy = record { copies = simp not_c; fulls = refl; before = nothing_of_c vacant refl }
+  unaffected step_delete_holder = record { copies = refl; fulls = simp not_c; before = nothing_of_c vacant refl }
 
 -- a step, at what is equal to its ends
-pub step_at : {d n : ℕ} {G : Facts → Type 0} {a : Action} {r r' x x' : RowState} {q q' y y' : Place} → TitleStep d n G a r q r' q'
-    → x ≡ r → y ≡ q → x' ≡ r' → y' ≡ q' → TitleStep d n G a x y x' y'
+pub step_at : {d n : ℕ} {P : Place → Type 0} {a : Action} {r r' x x' : RowState} {q q' y y' : Place} → TitleStep d n P a r q r' q'
+    → x ≡ r → y ≡ q → x' ≡ r' → y' ≡ q' → TitleStep d n P a x y x' y'
 step_at t a b c e = rw (a, b, c, e) t

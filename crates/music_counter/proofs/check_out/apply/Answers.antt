@@ -8,4 +8,4 @@ returns c rules =
     let a = c.args in
     checked_out_lem a.ledger.now a.titles.now rules a.content a.entry
     c.facts_here-facts.ensures
-    c.one_less.ensures c.set_permits.ensures c.write_title.ensures
+    c.one_less.ensures c.copy_cci-cci.ensures c.set_permits.ensures c.write_title.ensures
