@@ -219,7 +219,8 @@ module _ (pair : Pair) (b : Buffers) (are_bytes : AreBytes b) where
       let i = here_row_lem b c.0 (its_row pair (CheckOut c j) b n) n.here in
       let cci = copy_cci f.cci in
       let small : cci < 4 = copy_cci_small f.cci (omega (arith, i.in_ranges.cci)) in
-      let half = title_is b j.0 o (title_half cci f.title_key c.0) (length_title_half cci f.title_key c.0) in
+      let after = effect (CheckOut c j) b in
+      let half : title_at after.titles j.0 ≡ title_half cci f.title_key c.0 = title_is b j.0 o _ (length_title_half _ f.title_key c.0) in
       let says = ap cci_of half ∙ title_cci cci f.title_key c.0 small in
       let unusable = (of_free _ _ n.free).rule_unusable in
       record {
