@@ -647,13 +647,14 @@ static const struct {
     {5, {ENTRY, WORD, WORD, WORD, WORD}},
 };
 
-/* The limits of each argument, and the refusal of a value outside them. */
+/* The range of each argument, its lowest value and how far above it the highest lies, and the refusal of a value outside. A CCI is
+ * in its range or 0. */
 static const struct {
-    uint64_t lowest, highest, refusal;
+    uint64_t lowest, span, refusal;
 } limits[] = {
-    [CONTENT] = {1, COUNTER_MOST_ROWS, COUNTER_CONTENT_ID},
-    [ENTRY] = {1, COUNTER_LAST_ENTRY, COUNTER_ENTRY_NUMBER},
-    [CCI] = {0, 3, COUNTER_FACTS},
+    [CONTENT] = {1, COUNTER_MOST_ROWS - 1, COUNTER_CONTENT_ID},
+    [ENTRY] = {1, COUNTER_LAST_ENTRY - 1, COUNTER_ENTRY_NUMBER},
+    [CCI] = {2, 1, COUNTER_FACTS},
     [TRIGGER] = {0, 1, COUNTER_FACTS},
     [COUNT] = {0, COUNTER_UNLIMITED, COUNTER_FACTS},
     [KEY] = {0, KEY_BITS, COUNTER_FACTS},
@@ -667,9 +668,9 @@ static inline int is_kind(uint64_t kind)
 
 static inline uint64_t refuse_argument(enum argument argument, uint64_t value)
 {
-    if (value < limits[argument].lowest || value > limits[argument].highest || (argument == CCI && value == 1))
-        return limits[argument].refusal;
-    return COUNTER_DONE;
+    if (value - limits[argument].lowest <= limits[argument].span || (argument == CCI && value == 0))
+        return COUNTER_DONE;
+    return limits[argument].refusal;
 }
 
 /* Reads the number at *next and steps past it. */
@@ -722,7 +723,7 @@ uint64_t plain_read_request(const uint8_t *bytes, size_t bytes_len, uint64_t *ki
     return COUNTER_DONE;
 }
 
-/* How many groups of seven bits a number has: 9/64 is close enough to 1/7 up to 64 bits. */
+/* How many groups of seven bits a number has: 9/64 is close enough to 1/7 up to 64 bits. A table by leading zeros was no faster. */
 static inline size_t length_of(uint64_t number)
 {
     size_t bits = 64 - (size_t)__builtin_clzll(number | 1);
@@ -740,11 +741,19 @@ static inline uint8_t *write_number(uint8_t *next, uint64_t number)
     return next;
 }
 
+static size_t length_of_request(uint64_t kind, const uint64_t arguments[COUNTER_ARGUMENTS])
+{
+    size_t length = 1;
+
+    for (size_t i = 0; i < requests[kind].count; i++)
+        length += length_of(arguments[i]);
+    return length;
+}
+
 uint64_t plain_write_request(uint8_t *bytes, size_t bytes_len, uint64_t kind, const uint64_t arguments[COUNTER_ARGUMENTS],
                              size_t *used)
 {
     uint8_t *next = bytes;
-    size_t length = 1;
     uint64_t refusal;
 
     if (!is_kind(kind))
@@ -753,13 +762,12 @@ uint64_t plain_write_request(uint8_t *bytes, size_t bytes_len, uint64_t kind, co
         refusal = refuse_argument(requests[kind].arguments[i], arguments[i]);
         if (refusal)
             return refusal;
-        length += length_of(arguments[i]);
     }
-    if (length > bytes_len)
+    if (bytes_len < COUNTER_LONGEST_REQUEST && bytes_len < length_of_request(kind, arguments))
         return COUNTER_TOO_SHORT;
     *next++ = (uint8_t)kind;
     for (size_t i = 0; i < requests[kind].count; i++)
         next = write_number(next, arguments[i]);
-    *used = length;
+    *used = (size_t)(next - bytes);
     return COUNTER_DONE;
 }

@@ -1,4 +1,4 @@
-//! The eleven operations, by document 01 and requests W1 to W3 of document 02, on tables of either pair: each tests its
+//! The eleven operations, by document 01 and requests W1 to W4 of document 02, on tables of either pair: each tests its
 //! conditions in their order, and changes the tables, or what it writes beside them, only when none of them refuses.
 
 use crate::sheet::{self, MOST_TEXT};

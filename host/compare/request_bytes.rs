@@ -23,12 +23,13 @@ pub fn all_short(run: &mut Run) -> Result<(), String> {
     Ok(())
 }
 
-/// Each argument of each kind, and the kind, at and past each limit and where a number gets longer.
+/// Each argument of each kind, and the kind, at and past each limit and on both sides of each power of 2, of which every seventh is one of
+/// 128, where a number gets longer.
 pub fn at_limits(run: &mut Run) -> Result<(), String> {
     (run.part, run.round) = ("requests at limits", 0);
     let mut random = Random::new(run.seed, run.part, 0);
-    let longer = (1..10).flat_map(|groups| [(1 << (7 * groups)) - 1, 1 << (7 * groups)]);
-    let values: Vec<u64> = LIMITS.iter().copied().chain(longer).collect();
+    let sides_of_powers = (0..64).flat_map(|bit| [(1 << bit) - 1, 1 << bit]);
+    let values: Vec<u64> = LIMITS.iter().copied().chain(sides_of_powers).collect();
     for value in values {
         for kind in 1..=7 {
             let right = right_request(&mut random, kind);

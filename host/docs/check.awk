@@ -34,7 +34,7 @@ function take_in(file,    text, line, words, count, i, item, words_before) {
             if (!words_before) continue
             if (item && !((file, words[i]) in declared)) declared[file, words[i]] = line
             if (item && text ~ /^[a-z]/ && words[i] !~ /^(record|data|mod)$/) defined[file, words[i]] = 1
-            if (words[i] ~ /^(pub|fn|struct|enum|const)$/) item = 1
+            if (words[i] ~ /^(pub|fn|struct|enum|const|static)$/) item = 1
             else if (words[i] !~ /^(abbrev|unfoldable|record|data|extern|"C")$/) words_before = 0
         }
     }
@@ -42,13 +42,14 @@ function take_in(file,    text, line, words, count, i, item, words_before) {
 }
 
 # A type of the source that a definition imports: `use Rattle.CRATE.specs.declared.MODULE.TYPE.{TYPE}`, or its variants,
-# `.. .TYPE.TheVariants.{VARIANT, ..}`.
-function take_type(file, text,    parts, crate) {
+# `.. .TYPE.TheVariants.{VARIANT, ..}`; or constants, `.. .TheConstants.{NAME, ..}`.
+function take_type(file, text,    parts, crate, names, i) {
     split(text, parts, ".specs.declared.")
     crate = parts[1]
     sub(/^use Rattle\./, "", crate)
     split(parts[2], parts, ".")
-    imported["crates/" crate "/src/" parts[1] ".rt", parts[2]] = file
+    if (parts[2] != "TheConstants") imported["crates/" crate "/src/" parts[1] ".rt", parts[2]] = file
+    else for (i = words_of(parts[3], names); i > 0; i--) imported["crates/" crate "/src/" parts[1] ".rt", names[i]] = file
 }
 
 # A name that a place `file:line` has beside it. Answers the line that is right.

@@ -156,30 +156,23 @@ fn number_write(x: u64, room: usize) {
     }
 }
 
-// Bytes for which there is no room are left out.
-fn number_write_at(x: u64, place: u64, room: usize) {
-    let mut out = vec![FILL; room];
-    let case = Case::new("write-number-at", 0x28, &[x, place], &out);
-    let mut end = place;
-    for b in encode(x) {
-        if end < room as u64 {
-            out[end as usize] = b;
-            end += 1;
-        }
-    }
-    case.number("end", end).bytes("bytes", &out).end();
+// Both sides of each power of 2, of which every seventh is one of 128.
+fn sides_of_powers() -> impl Iterator<Item = u64> {
+    (0..64).flat_map(|k| [(1 << k) - 1, 1 << k]).chain([TOP])
 }
 
 fn number_cases() {
+    for x in sides_of_powers() {
+        let n = encode(x).len();
+        Case::new("length", 0x11, &[x], &[]).number("length", n as u64).end();
+        number_write(x, n - 1);
+        number_write(x, n);
+    }
     for x in [0, 1, 127, 128, 16383, 16384, KEY_LIMIT - 1, KEY_LIMIT, 1 << 63, TOP] {
         let mut form = encode(x);
         let n = form.len();
-        Case::new("length", 0x11, &[x], &[]).number("length", n as u64).end();
         for room in [0, n - 1, n, 12] {
             number_write(x, room);
-        }
-        for place in [0, 1, 2, n as u64 + 1, 12, TOP] {
-            number_write_at(x, place, n + 1);
         }
         number_read(&form[..n - 1]);
         form.push(FILL);
@@ -477,15 +470,55 @@ fn remainder(s: &[u8]) {
     Case::new("remainder", 0x04, &[], s).bytes("remainder", &s[used..]).end();
 }
 
+// Each argument as long as its limit allows.
+fn longest(kind: u64) -> Vec<u8> {
+    let facts = &MOST.values()[..];
+    match kind {
+        1 => form(1, &[&[999], facts].concat()),
+        2 => form(2, &[&[999, 999], facts, &[TOP]].concat()),
+        3 => form(3, &[999, 999]),
+        4 => form(4, &[999, TOP]),
+        5 => form(5, &[999, TOP, TOP, TOP, TOP, TOP]),
+        6 => form(6, &[999, 999, TOP]),
+        _ => form(7, &[999, TOP, TOP, TOP, TOP]),
+    }
+}
+
+// A request that is read and written again, into room for any and into four bytes.
+fn written_again(s: &[u8]) {
+    let mut case = Case::new("written-again", 0x08, &[], s);
+    match parse(s) {
+        Ok((kind, arguments, _)) => {
+            for room in [60, 4] {
+                let mut out = form(kind, &arguments);
+                if out.len() <= room {
+                    case = case.number("done", 0).number("length", out.len() as u64);
+                    out.resize(room, FILL);
+                } else {
+                    case = case.number("refused", 1);
+                    out = vec![FILL; room];
+                }
+                case = case.bytes("bytes", &out);
+            }
+            case.end();
+        }
+        Err(w) => case.number("refused", w).end(),
+    }
+}
+
 fn remainder_cases() {
     for kind in 1..=7 {
+        written_again(&request(kind, 1, 127));
+        written_again(&longest(kind));
         let s = request(kind, 999, 128);
+        written_again(&s[..s.len() - 1]);
         remainder(&s[..s.len() - 1]);
         remainder(&s);
         remainder(&[&s[..], &[0]].concat());
         remainder(&[&s[..], &s[..]].concat());
     }
     for fault in FAULTS {
+        written_again(fault);
         remainder(fault);
         remainder(&[fault, &[1, 2, 3]].concat());
     }
@@ -550,7 +583,7 @@ fn streams() {
 
 // Lines that are no case: no digits, a code that nothing has, fewer bytes than its numbers have.
 fn no_cases() {
-    for line in ["", "no digits", "00", "08", "7F", "FF", "1", "11", "12 00", "88 0000000000000000", "29 0000000000000000 0000000000000000"] {
+    for line in ["", "no digits", "00", "09", "7F", "FF", "1", "11", "12 00", "88 0000000000000000", "29 0000000000000000 0000000000000000"] {
         Case { line: line.to_string(), names: String::new(), answer: " ?".to_string() }.end();
     }
 }

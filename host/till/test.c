@@ -1,6 +1,6 @@
 /*
  * Tests libtill.a through music_counter.h, call by call, against document 01 and, for picture tables, the closing sheet and
- * the CCI of copies, requests W1 to W3 of document 02. All that is lent tables runs twice, with those of either pair.
+ * the CCI of copies, requests W1 to W4 of document 02. All that is lent tables runs twice, with those of either pair.
  *
  * Before each call the test knows every byte of the buffers; after it, it knows every byte that the paper wants there, since
  * it sets them itself, field by field. All bytes are compared after every call, and so are the guard bytes
@@ -1748,15 +1748,18 @@ static void add_number(struct made *m, uint64_t value)
     m->bytes[m->request.length++] = (char)value;
 }
 
-/* The same with other arguments. The first limit that is passed is answered; a room that is too short comes after it. */
+/* The same with other arguments. The first limit that is passed is answered; a room that is too short comes after it. What stands behind
+ * the arguments of the kind counts for nothing. */
 static void with_arguments(const struct request *r, const uint64_t *arguments)
 {
     struct made m = {{m.bytes, 0, r->kind, {0}}, {0}};
-    uint64_t answer = 0;
+    uint64_t answer = 0, behind[COUNTER_ARGUMENTS];
 
+    memset(behind, 0xff, sizeof behind);
     memcpy(m.request.arguments, arguments, sizeof m.request.arguments);
     add_number(&m, r->kind);
     for (size_t at = 0; schemas[r->kind][at] != 0; at++) {
+        behind[at] = arguments[at];
         add_number(&m, arguments[at]);
         if (answer == 0)
             answer = limit(schemas[r->kind][at], arguments[at]);
@@ -1768,21 +1771,31 @@ static void with_arguments(const struct request *r, const uint64_t *arguments)
     lend(r->bytes, 0);
     resize(&ledger, m.request.length);
     settle();
-    writes(__LINE__, &m.request, r->kind, arguments, answer);
+    writes(__LINE__, &m.request, r->kind, behind, answer);
 }
 
-/* Each argument of each kind at and past its limits, alone and with all behind it past theirs. */
+/* A limit that is no power of 2, or a side of a power of 2: every seventh is one of 128, where a number gets longer. */
+static const uint64_t no_powers[] = {999, 1000, TOP};
+#define VALUES (COUNT_OF(no_powers) + 2 * 64)
+
+static uint64_t value_at(size_t n)
+{
+    if (n < COUNT_OF(no_powers))
+        return no_powers[n];
+    n -= COUNT_OF(no_powers);
+    return ((uint64_t)1 << n / 2) - 1 + n % 2;
+}
+
+/* Each argument of each kind at and past its limits and at each length, alone and with all behind it past theirs. */
 static void limits_of_requests(void)
 {
-    static const uint64_t values[] = {0, 1, 2, 3, 4, 15, 16, 127, 128, 999, 1000, 16383, 16384, KEY_LIMIT - 1, KEY_LIMIT, TOP};
-
     for (size_t k = 0; k < COUNT_OF(written); k++)
         for (size_t at = 0; schemas[written[k].kind][at] != 0; at++)
-            for (size_t n = 0; n < COUNT_OF(values); n++) {
+            for (size_t n = 0; n < VALUES; n++) {
                 uint64_t arguments[COUNTER_ARGUMENTS];
 
                 memcpy(arguments, written[k].arguments, sizeof arguments);
-                arguments[at] = values[n];
+                arguments[at] = value_at(n);
                 with_arguments(&written[k], arguments);
                 for (size_t i = at + 1; schemas[written[k].kind][i] != 0; i++)
                     arguments[i] = TOP;

@@ -1,6 +1,6 @@
 -- What the parts of a case are, and what a case writes.
 use Rattle.std.specs.Prelude.{ℕ, ◌+◌, ◌-◌, ◌*◌, ◌%◌, ◌<◌, ◌≡◌, List, Option, Some, None, cond, length, get_or, leb, ltb, eqb}
-use Rattle.formats.specs.Part.{part, put, fitting, replaced}
+use Rattle.formats.specs.Part.{part, put, replaced}
 use Rattle.formats.specs.Field.{number, bytes_of}
 use Rattle.formats.specs.Half.{half_bytes, wiped, changed_half}
 use Rattle.formats.specs.Title.{title_half}
@@ -44,13 +44,12 @@ leaves code v p =
     (cond (eqb code 0x1B) (replaced 24 (with_permits p (number_at v 0)) p)
     (cond (eqb code 0x1C) (bytes_of (length p) (number_at v 0))
     (cond (eqb code 0x1D) (written_to (groups (number_at v 0)) p)
-    (cond (eqb code 0x28) (put p (number_at v 1) (fitting p (number_at v 1) (groups (number_at v 0))))
     (cond (eqb code 0x38) (replaced 16 (title_half (number_at v 0) (number_at v 1) (number_at v 2)) p)
     (cond (eqb code 0x39) (changed_half (put p 0 (half_bytes (number_at v 0 % 256) (number_at v 1) (number_at v 2))) p)
     (cond (eqb code 0x48) (replaced 32 (wiped_rule p (record { f1 = number_at v 0; f2 = number_at v 1; f3 = number_at v 2; f4 = number_at v 3 })) p)
     (cond (eqb code 0x68) (replaced 24 (here_row (facts_from v)) p)
     (cond (eqb code 0x88) (replaced 32 (rule_half (facts_from v) (number_at v 6) (number_at v 7)) p)
-    p)))))))))))
+    p))))))))))
 
 -- what a case that writes in a text leaves of its part
 unfoldable pub leaves_in_text : ℕ → List ℕ → List ℕ → List ℕ

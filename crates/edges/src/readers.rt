@@ -1,6 +1,6 @@
 // What a case shows.
-use crate::print;
 use crate::writers::Call;
+use crate::{print, writers};
 use closing_sheet::sheet;
 use formats::entry::{Entry, EntryKind};
 use formats::facts::{ContentId, Facts};
@@ -11,6 +11,7 @@ use formats::{field, half, head, row, rule, table, title};
 use music_counter::serve;
 use music_counter::serve::Note;
 use requests::read::Read;
+use requests::request::Request;
 use requests::{number, request};
 use tables::format;
 use tables::shop::Shop;
@@ -26,6 +27,7 @@ pub fn show(call: Call, case: &[u8], part: &[u8]) {
         0x05 => stream(Pair::Audio, part),
         0x06 => print::number(field::read(part)),
         0x07 => stream(Pair::Picture, part),
+        0x08 => written_again(request::read(part)),
         0x11 => print::number(number::len(v[0]) as u64),
         0x12 => print::number(u64::from(half::is_flagged(part, ContentId(v[0])))),
         0x13 => print::number(text::len(v[0]) as u64),
@@ -41,20 +43,8 @@ pub fn show(call: Call, case: &[u8], part: &[u8]) {
 
 fn written(code: u8, part: &[u8]) {
     match code {
-        0x18
-        | 0x19
-        | 0x1a
-        | 0x1b
-        | 0x1c
-        | 0x1d
-        | 0x1e
-        | 0x28
-        | 0x38
-        | 0x39
-        | 0x3a
-        | 0x48
-        | 0x68
-        | 0x88 => { print::bytes(part) }
+        0x18 | 0x19 | 0x1a | 0x1b | 0x1c | 0x1d | 0x1e | 0x38 | 0x39 | 0x3a | 0x48 | 0x68 | 0x88 =>
+            { print::bytes(part) }
         _ => print::unknown(),
     }
 }
@@ -113,6 +103,19 @@ fn read(found: Result<Read<u64>, Refusal>) {
         print::number(read.value);
         print::number(read.len as u64);
     }
+}
+
+// The request that was read, written into room for any and into four bytes, and those bytes.
+fn written_again(found: Result<Read<Request>, Refusal>) {
+    let Ok(read) = found else {
+        return print::answer(found.map(|_| ()));
+    };
+    let mut long = [0xee; 60];
+    let mut short = [0xee; 4];
+    writers::written(request::write(read.value, &mut long));
+    print::bytes(&long);
+    writers::written(request::write(read.value, &mut short));
+    print::bytes(&short);
 }
 
 // The tests and fields of a ledger's head, and those of the card's, as tables of either pair.

@@ -58,7 +58,6 @@ pub fn write(call: Call, part: &mut [u8])
         0x1b => row::write_permits(part, v[0]),
         0x1c => field::write(part, v[0]),
         0x1d => written(number::write(v[0], part)),
-        0x28 => print::number(number::write_at(v[0], part, v[1] as usize) as u64),
         0x38 => title::write(part, v[0], v[1], ContentId(v[2])),
         0x39 => half::write(part, field::low_byte(v[0]), v[1], ContentId(v[2])),
         0x48 => rule::wipe(
@@ -77,7 +76,7 @@ pub fn write(call: Call, part: &mut [u8])
 }
 
 // 0 and the count of bytes, or what it is refused with.
-fn written(answer: Result<usize, Refusal>) {
+pub fn written(answer: Result<usize, Refusal>) {
     print::answer(answer.map(|_| ()));
     if let Ok(n) = answer {
         print::number(n as u64);

@@ -1,4 +1,4 @@
--- The laws of `part`, `put`, `fitting` and `replaced`: the same place, places apart, lengths, puts one after the other, and parts
+-- The laws of `part`, `put` and `replaced`: the same place, places apart, lengths, puts one after the other, and parts
 -- that were lent.
 -- Assumes nothing.
 use Prim.Native.Nat.{ℕ, zero, suc, ◌+◌, ◌-◌, ◌≤◌, ◌<◌}
@@ -8,10 +8,10 @@ use native.Mathlib.Decide.{dec_lt}
 use native.Mathlib.Numerals.{add-one}
 use native.Mathlib.Omega.{arith}
 use lib.ListN.{length, take, drop, set, get_or, length-take, length-drop, length-append, get_or-append, drop_of_length-le}
-use lib.Seq.{take_all, take-take, drop-drop, get_or-take, get_or-drop, get_or-append-add, length-take-le, ext_get_or, set_split}
+use lib.Seq.{take-take, drop-drop, get_or-take, get_or-drop, get_or-append-add, length-take-le, ext_get_or, set_split}
 use borrow.Rule.Slice.PartMut.{put_mid}
 use borrow.Author.Tests.{eq-eqb}
-use Rattle.formats.specs.Part.{part, put, fitting, replaced}
+use Rattle.formats.specs.Part.{part, put, replaced}
 
 pub part_length : (a n : ℕ) (l : List ℕ) → a + n ≤ length l → length (part l a n) ≡ n
 part_length a n l h = simp (length-take, length-drop) (omega arith)
@@ -156,21 +156,6 @@ put_whole l p e = ap (λ (z : List ℕ). p ++ z) (drop_of_length-le l {i = 0 + l
 pub set_put : (l : List ℕ) (i v : ℕ) → i < length l → set l i v ≡ put l i (v ∷ [])
 unfolding put
 set_put l i v h = set_split l i v h ∙ ap (λ (k : ℕ). take i l ++ (v ∷ drop k l)) (sym (add-one i))
-
--- bytes put where there is room for the first of them, for none of them, and for all
-pub fits_next : (l : List ℕ) (a b : ℕ) (p : List ℕ) → a < length l → fitting l a (b ∷ p) ≡ b ∷ fitting l (a + 1) p
-fits_next l a b p h = let e : length l - a ≡ suc (length l - (a + 1)) = omega arith in rw e refl
-
-pub fits_none : (l : List ℕ) (a : ℕ) (p : List ℕ) → length l ≤ a → fitting l a p ≡ []
-fits_none l a p h = let e : length l - a ≡ 0 = omega arith in rw e refl
-
-pub fits_all : (l : List ℕ) (a : ℕ) (p : List ℕ) → a + length p ≤ length l → fitting l a p ≡ p
-fits_all l a p h = take_all (length l - a) p (omega arith)
-
--- a put of all of them
-pub put_fitting : {r : ℕ} {m : List ℕ} (l : List ℕ) (a : ℕ) (p : List ℕ) → a + length p ≤ length l → (r ≡ a + length (fitting l a p)) × (m ≡ put l a (fitting l a p))
-    → (r ≡ a + length p) × (m ≡ put l a p)
-put_fitting l a p h e = rw (fits_all l a p h) at e
 
 -- a part that was lent as `&l[a..a + n]`
 pub lent : (a n : ℕ) (l : List ℕ) → a + n ≤ length l → (take ((a + n) - a) (drop a l) ≡ part l a n) × (length (take ((a + n) - a) (drop a l)) ≡ n)

@@ -7,8 +7,8 @@ use native.Mathlib.Omega.{arith}
 use native.Mathlib.Numerals.{add-one}
 use lib.ListN.{length, take, drop, set, length-set, length-take, length-append, take-append-drop}
 use lib.Seq.{take-suc-set, drop-set-lt, drop-drop, append_snoc, take_at, drop_at}
-use Rattle.formats.specs.Part.{put, fitting}
-use Rattle.formats.proofs.Part.{put_length, fits_next}
+use Rattle.formats.specs.Part.{put}
+use Rattle.formats.proofs.Part.{put_length}
 
 -- out was out₀; of the bytes w, those before place i stand in it, from place a on, and those in `left` are still to be stored
 pub record Storing (w out₀ : List ℕ) (a : ℕ) (out : List ℕ) (i : ℕ) (left : List ℕ) : Type 0 where
@@ -36,10 +36,10 @@ store {w} {out₀} {a} {out} {i} {b} {left} r h =
       count = omega (arith, r.count);
     }
 
--- the same where the bytes that are left are those of p for which there is room
-pub store_fitting : {w out₀ : List ℕ} {a : ℕ} {out : List ℕ} {i : ℕ} (p : List ℕ) {b : ℕ} {left : List ℕ} → Storing w out₀ a out i (fitting out₀ i p) → p ≡ b ∷ left
-    → i < length out → Storing w out₀ a (set out i b) (i + 1) (fitting out₀ (i + 1) left)
-store_fitting {out₀ = out₀} {i = i} p {b} {left} r e h = store (rw (e, fits_next out₀ i b left (omega (arith, r.size))) at r) h
+-- the same where the bytes that are left are p
+pub store_next : {w out₀ : List ℕ} {a : ℕ} {out : List ℕ} {i : ℕ} (p : List ℕ) {b : ℕ} {left : List ℕ} → Storing w out₀ a out i p → p ≡ b ∷ left → i < length out
+    → Storing w out₀ a (set out i b) (i + 1) left
+store_next p r e h = store (rw e at r) h
 
 -- or the next bytes at once
 pub store_all : {w out₀ : List ℕ} {a : ℕ} {out : List ℕ} {i : ℕ} (p : List ℕ) {left : List ℕ} → Storing w out₀ a out i (p ++ left)

@@ -1,5 +1,5 @@
 -- The ways into and out of a table: a part of its bytes, and the table with other bytes in a part's place.
-use Rattle.std.specs.Prelude.{ℕ, ◌+◌, ◌-◌, List, ◌++◌, cond, length, take, drop, eqb}
+use Rattle.std.specs.Prelude.{ℕ, ◌+◌, List, ◌++◌, cond, length, take, drop, eqb}
 
 -- "the part of its table that it occupies": the n bytes of l from place a on
 abbrev pub part : List ℕ → ℕ → ℕ → List ℕ
@@ -8,10 +8,6 @@ part l a n = take n (drop a l)
 -- l with the bytes p from place a on, instead of what stood there
 unfoldable pub put : List ℕ → ℕ → List ℕ → List ℕ
 put l a p = take a l ++ (p ++ drop (a + length p) l)
-
--- the bytes of p for which l has room from place a on
-abbrev pub fitting : List ℕ → ℕ → List ℕ → List ℕ
-fitting l a p = take (length l - a) p
 
 -- a part of n bytes that was lent to be written: the bytes `new`; a part of another length is left as it is
 abbrev pub replaced : ℕ → List ℕ → List ℕ → List ℕ

@@ -33,6 +33,8 @@ pub struct Fillers {
 // Content IDs, entry numbers and the count of a ledger's rows are from 1 to this.
 pub const LAST_NUMBER: u64 = 999;
 
+pub const MOST_CCI: u64 = 3;
+
 pub const MOST_TRIGGER: u64 = 1;
 
 // Of move rights and permits.
@@ -50,7 +52,7 @@ pub fn is_numbered(v: u64) -> bool
 pub fn is_cci(v: u64) -> bool
     ensures { result ≡ cci_passes v }
 {
-    v <= 3 && v != 1
+    v <= MOST_CCI && v != 1
 }
 
 // This range and the next two differ in their last number, and each has a name and a definition: one function over that number would be

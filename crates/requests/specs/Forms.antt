@@ -2,6 +2,8 @@
 use Rattle.std.specs.Prelude.{ℕ, ◌^◌, ◌≤◌, ◌<◌, ◌≡◌, ◌⊎◌, List, ◌++◌, true, length, take, get_or}
 use Rattle.formats.specs.Bytes.{Bytes}
 use Rattle.requests.specs.Number.{Number, Refused as NoNumber, groups, read_groups, read_number}
+use Rattle.std.specs.Int.{leading_zeros, w64}
+use Rattle.requests.specs.declared.number.TheConstants.{LENGTHS}
 use Rattle.requests.specs.Request.{Read, Refused, values_of, written, limit_of, read_request}
 use Rattle.requests.specs.declared.request.Request.{Request}
 
@@ -57,6 +59,13 @@ pub record NumberRefused : Type 0 where
   pub only_these : (s : List ℕ) → read_number s ≡ NoNumber 2 → NotShortest s ⊎ TooLarge s
   pub read_else : (s : List ℕ) → (EndsInside s → ⊥) → (NotShortest s → ⊥) → (TooLarge s → ⊥) → IsRead s
 
+-- "take it from a table of 65 lengths chosen by the count of leading zeros. Zero has length 1; every number gets the length of its
+-- written form" (document 02): of the table in the code
+pub record LengthsFromTable : Type 0 where
+  pub size : length LENGTHS ≡ 65
+  pub zero : length (groups 0) ≡ 1
+  pub by_leading_zeros : (n : ℕ) → n < 2 ^ 64 → get_or LENGTHS (leading_zeros w64 n) 0 ≡ length (groups n)
+
 -- every value is a 64-bit number
 abbrev pub Below : List ℕ → Type 0
 Below vs = (i : ℕ) → get_or vs i 0 < 2 ^ 64
@@ -71,3 +80,5 @@ pub record RequestForm : Type 0 where
   pub read_stays : (s rest : List ℕ) (q : Request) (k : ℕ) → read_request s ≡ Read q k → read_request (s ++ rest) ≡ Read q k
   -- nothing past the first fault counts: a refusal stays, unless it is that the bytes end
   pub refused_stays : (s rest : List ℕ) (w : ℕ) → read_request s ≡ Refused w → (w ≡ 1 → ⊥) → read_request (s ++ rest) ≡ Refused w
+  -- no request within its limits is longer than 53 bytes
+  pub at_most_53 : (q : Request) → limit_of q ≡ 0 → Below (values_of q) → length (written q) ≤ 53

@@ -1,14 +1,30 @@
 // Numbers in groups of seven bits, the low group first.
 ghost use Rattle.std.specs.Prelude.{◌≡◌, ◌+◌, ◌≤◌, length};
-ghost use Rattle.formats.specs.Part.{put, fitting};
+ghost use Rattle.formats.specs.Part.{put};
 ghost use Rattle.formats.specs.Refusal.{answer_of};
 ghost use Rattle.requests.specs.Number.{groups, read_number, number_values, number_answer, count_values, written_answer, writing, written_to};
 
 use crate::read::Read;
 use formats::refusal::Refusal;
 
-// The number at the front of `s`.
+// The number at the front of `s`. One below 128 is its only byte, and taken at once. Put into its callers, this and the next cost no call
+// for each number, and their answer does not go through memory.
+#[inline(always)]
 pub fn read(s: &[u8]) -> Result<Read<u64>, Refusal>
+    ensures { answer_of number_values result ≡ number_answer (read_number s.now) }
+{
+    match s.first() {
+        Some(byte) if *byte < 128 => Ok(Read {
+            value: u64::from(*byte),
+            len: 1,
+        }),
+        _ => read_groups(s),
+    }
+}
+
+// The same, group by group. A group's value is added before it is known whether it is the last, as the loop does for every other.
+#[inline(always)]
+fn read_groups(s: &[u8]) -> Result<Read<u64>, Refusal>
     ensures { answer_of number_values result ≡ number_answer (read_number s.now) }
 {
     let mut value: u64 = 0;
@@ -24,47 +40,69 @@ pub fn read(s: &[u8]) -> Result<Read<u64>, Refusal>
             }
             return Err(Refusal::Number);
         }
+        value += place * (b % 128);
         if b < 128 {
             let is_longer = 0 < i;
             if b == 0 && is_longer {
                 return Err(Refusal::Number);
             }
-            return Ok(Read {
-                value: value + place * b,
-                len: i + 1,
-            });
+            return Ok(Read { value, len: i + 1 });
         }
-        value += place * (b - 128);
         place *= 128;
     }
     Err(Refusal::TooShort)
 }
 
-// How many bytes `x` is written in: as many as there are groups up to its highest bit.
+// The length of a number's written form, by the count of its leading zeros. Seven places of the highest bit make a group, so each length
+// but 10 stands seven times: a row for each, by hand and not by the formatter, so that it can be checked by eye. 10 is a number of all 64
+// bits; the last entry is 0, which has no bit and is one group all the same.
+#[rattlefmt::skip]
+static LENGTHS: [u8; 65] = [
+    10,
+    9, 9, 9, 9, 9, 9, 9,
+    8, 8, 8, 8, 8, 8, 8,
+    7, 7, 7, 7, 7, 7, 7,
+    6, 6, 6, 6, 6, 6, 6,
+    5, 5, 5, 5, 5, 5, 5,
+    4, 4, 4, 4, 4, 4, 4,
+    3, 3, 3, 3, 3, 3, 3,
+    2, 2, 2, 2, 2, 2, 2,
+    1, 1, 1, 1, 1, 1, 1,
+    1,
+];
+
+// How many bytes `x` is written in.
 pub fn len(x: u64) -> usize
     ensures count { result ≡ length (groups x) }
     ensures at_most_ten { result ≤ 10 }
 {
-    (x.max(1).ilog2() / 7 + 1) as usize
+    usize::from(LENGTHS[x.leading_zeros() as usize])
 }
 
-// Writes `x` from place `at` of `out` on, as many of its bytes as there is room for, and answers the place after them. The place stays beside
-// the buffer, since it may lie past the end; and the loop is over places, since after `iter_mut().enumerate().skip(at)` nothing is
-// known of the bytes.
-pub fn write_at(x: u64, out: &mut [u8], at: usize) -> usize
-    ensures place { result ≡ at + length (fitting out.old at (groups x)) }
-    ensures bytes { out.new ≡ put out.old at (fitting out.old at (groups x)) }
+// Writes `x` from place `at` of `out` on, where there is room for it, and answers the place after it. What has one group or two, as
+// content IDs and entry numbers have, takes no loop.
+pub(crate) fn store(x: u64, out: &mut [u8], at: usize) -> usize
+    requires { at + length (groups x) ≤ length out.old }
+    ensures place { result ≡ at + length (groups x) }
+    ensures bytes { out.new ≡ put out.old at (groups x) }
 {
+    if x < 128 {
+        out[at] = x as u8;
+        return at + 1;
+    }
+    if x < 128 * 128 {
+        out[at] = (128 + x % 128) as u8;
+        out[at + 1] = (x >> 7) as u8;
+        return at + 2;
+    }
+    let last = at + len(x) - 1;
     let mut left = x;
-    for i in at..out.len() {
-        if left < 128 {
-            out[i] = left as u8;
-            return i + 1;
-        }
+    for i in at..last {
         out[i] = (128 + left % 128) as u8;
         left >>= 7;
     }
-    at.max(out.len())
+    out[last] = left as u8;
+    last + 1
 }
 
 // Writes `x` at the front of `out`; where it does not fit, changes nothing and refuses. Answers the count of bytes written.
@@ -75,5 +113,5 @@ pub fn write(x: u64, out: &mut [u8]) -> Result<usize, Refusal>
     if out.len() < len(x) {
         return Err(Refusal::TooShort);
     }
-    Ok(write_at(x, out, 0))
+    Ok(store(x, out, 0))
 }

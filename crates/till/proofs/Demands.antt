@@ -13,7 +13,7 @@ use Rattle.formats.specs.Part.{put}
 use Rattle.requests.specs.Number.{Written, NotWritten, written_answer}
 use Rattle.requests.specs.Request.{kind_limit, request_of, written, writing_request, request_written_to}
 use Rattle.formats.proofs.Layouts.{layout}
-use Rattle.requests.proofs.Forms.{groups_of_seven, number_form, number_refused, one_written_form}
+use Rattle.requests.proofs.Forms.{groups_of_seven, number_form, number_refused, lengths_from_table, one_written_form}
 use Rattle.calls.specs.Requests.{kind_condition, writing_conditions}
 use Rattle.calls.proofs.Refusals.{refused_first}
 use Rattle.calls.proofs.InBounds.{demand_1_calls}
@@ -32,7 +32,7 @@ use Rattle.closing_sheet.proofs.Shows.{sheet_shows}
 use Rattle.closing_sheet.proofs.History.{sheet_adds_up}
 use Rattle.music_counter.proofs.SampleRun.{sample_stream}
 use Rattle.music_counter.proofs.History.{served_history}
-use Rattle.till.specs.Requests.{writing_numbers, numbers_written_to}
+use Rattle.requests.specs.Values.{writing_numbers, numbers_written_to}
 use Rattle.till.specs.Demands.{WritesNumbers, Demands}
 
 -- WRITING NUMBERS: the kind is tested before the rest
@@ -100,6 +100,7 @@ demands =
             layout = layout;
             groups = groups_of_seven;
             number_form = number_form;
+            lengths_from_table = lengths_from_table;
             request_form = one_written_form;
             examples = ten_examples;
             one_generation = one_generation;

@@ -7,7 +7,7 @@ use Rattle.formats.specs.Part.{put}
 use Rattle.formats.specs.Layout.{Layout}
 use Rattle.requests.specs.Number.{written_answer}
 use Rattle.requests.specs.Request.{schema, kind_of, request_of, written}
-use Rattle.requests.specs.Forms.{GroupsOfSeven, NumberForm, NumberRefused, RequestForm}
+use Rattle.requests.specs.Forms.{GroupsOfSeven, NumberForm, NumberRefused, LengthsFromTable, RequestForm}
 use Rattle.calls.specs.Refusal.{RefusedFirst}
 use Rattle.calls.specs.Perform.{Demand1Calls}
 use Rattle.calls.specs.Requests.{kind_condition, writing_conditions, values_numbers, Demand1Requests}
@@ -25,7 +25,7 @@ use Rattle.closing_sheet.specs.Shows.{SheetShows}
 use Rattle.closing_sheet.specs.History.{SheetAddsUp}
 use Rattle.music_counter.specs.SampleRun.{SampleStream}
 use Rattle.music_counter.specs.History.{ServedHistory}
-use Rattle.till.specs.Requests.{writing_numbers, numbers_written_to}
+use Rattle.requests.specs.Values.{writing_numbers, numbers_written_to}
 
 -- a till's kind is any number, so that its writing tests 3 before all else
 pub record WritesNumbers (kind : ℕ) (arguments out : List ℕ) : Type 0 where
@@ -65,6 +65,7 @@ pub record Demand2 : Type 0 where
   pub layout : Layout
   pub groups : GroupsOfSeven
   pub number_form : NumberForm
+  pub lengths_from_table : LengthsFromTable
   pub request_form : RequestForm
   pub examples : TenExamples
   pub one_generation : OneGeneration

@@ -7,7 +7,7 @@
 
 ghost use Rattle.std.specs.Prelude.{◌≡◌};
 ghost use Rattle.std.specs.Result.{result_unwrap_or};
-ghost use Rattle.formats.specs.Refusal.{answer_number, answer_of};
+ghost use Rattle.formats.specs.Refusal.{answer_number};
 ghost use Rattle.requests.specs.declared.request.Request.TheVariants.{Register, Record, CheckOut, CheckIn, MoveOut, MoveIn, Delete};
 ghost use Rattle.calls.specs.Buffers.{buffers_of};
 ghost use Rattle.tables.specs.Format.{ledger_formatting, formatted_ledger, card_formatting, formatted_titles, formatted_rules};
@@ -16,10 +16,11 @@ ghost use Rattle.closing_sheet.specs.Sheet.{sheet_writing, sheet_written_to};
 ghost use Rattle.music_counter.specs.Answer.{Answers, AnswersByLedger};
 ghost use Rattle.till.specs.Given.{pair_of, title, place, facts, fillers};
 ghost use Rattle.till.specs.Tally.{copies_after};
-ghost use Rattle.requests.specs.Number.{count_values, written_answer};
+ghost use Rattle.requests.specs.Number.{written_answer};
 ghost use Rattle.requests.specs.Request.{read_request, request_answer};
 ghost use Rattle.till.specs.Demands.{Demands};
-ghost use Rattle.till.specs.Requests.{kind_after, arguments_after, used_after, writing_numbers, numbers_written_to, count_after};
+ghost use Rattle.requests.specs.Values.{kind_after, values_after, writing_numbers, numbers_written_to};
+ghost use Rattle.till.specs.Requests.{used_after, count_after};
 
 use closing_sheet::sheet;
 use formats::facts::{ContentId, EntryNumber, Facts, Fillers};
@@ -28,7 +29,6 @@ use formats::refusal;
 use formats::refusal::Refusal;
 use music_counter::{check_in, check_out, delete, move_in, move_out, record, register};
 use requests::request;
-use requests::request::Numbers;
 use tables::card::Card;
 use tables::shop::Shop;
 use tables::{format, tally};
@@ -333,31 +333,10 @@ pub extern "C" fn counter_read_request(
 ) -> u64
     ensures answer { result ≡ (request_answer (read_request bytes.now)).number }
     ensures kind_told { kind.new ≡ kind_after (read_request bytes.now) kind.old }
-    ensures arguments_told { arguments.new ≡ arguments_after (read_request bytes.now) arguments.old }
+    ensures arguments_told { arguments.new ≡ values_after (read_request bytes.now) arguments.old }
     ensures used_told { used.new ≡ used_after (read_request bytes.now) used.old }
 {
-    let found = request::read(bytes);
-    let Ok(read) = found else {
-        return refusal::number(found);
-    };
-    let Numbers {
-        kind: found_kind,
-        values,
-    } = request::numbers_of(read.value);
-    *kind = found_kind;
-    *arguments = values;
-    *used = read.len;
-    0
-}
-
-// Writes the request of these numbers. Its kind is any number, and so it is tested first.
-#[tactic(auto, unfolding(crate::specs::Requests::writing_numbers, crate::specs::Requests::numbers_written_to))]
-fn write_numbers(kind: u64, arguments: [u64; 9], bytes: &mut [u8]) -> Result<usize, Refusal>
-    ensures answer { answer_of count_values result ≡ written_answer (writing_numbers kind arguments bytes.old) }
-    ensures written { bytes.new ≡ numbers_written_to kind arguments bytes.old }
-{
-    request::kind_limit(kind)?;
-    request::write(request::request_of(kind, arguments), bytes)
+    tell(request::read_numbers(bytes, kind, arguments), used)
 }
 
 // Answers 0, or 3, 4, 5, 6 or 1 with nothing changed.
@@ -373,5 +352,5 @@ pub extern "C" fn counter_write_request(
     ensures used_told { used.new
         ≡ count_after (writing_numbers kind arguments.now bytes.old) used.old }
 {
-    tell(write_numbers(kind, *arguments, bytes), used)
+    tell(request::write_numbers(kind, arguments, bytes), used)
 }

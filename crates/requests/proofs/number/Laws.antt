@@ -1,15 +1,13 @@
 -- The laws of numbers in groups of seven bits: of any count of groups, then of the ten bytes that a number may have. Reading undoes writing,
 -- only the written form is read, and nothing after a number counts.
 -- Assumes nothing.
-use Prim.Native.Nat.{ℕ, zero, suc, max, ◌+◌, ◌-◌, ◌*◌, ◌/◌, ◌%◌, ◌^◌, ◌≤◌, ◌<◌}
+use Prim.Native.Nat.{ℕ, zero, suc, ◌+◌, ◌-◌, ◌*◌, ◌/◌, ◌%◌, ◌^◌, ◌≤◌, ◌<◌}
 use mathlib.Core.Path.{◌≡◌, refl, sym, ap, ap₂, ◌∙◌}
 use mathlib.Core.Logic.{◌⊎◌, inl, inr, ⊎_elim}
 use mathlib.Core.List.{List, [], ◌∷◌, ◌++◌}
 use mathlib.Core.Bool.{Bool, true, false, cond, not, true≢false}
 use native.Mathlib.Omega.{arith}
 use native.Mathlib.Nat.{pow-succ', one-le-pow}
-use Rattle.std.proofs.lemmas.Nat.{pow-add}
-use Rattle.std.proofs.Math.Pow.{pow_mono}
 use native.Mathlib.Numerals.{add-one}
 use native.Mathlib.Decide.{dec_lt, ℕ_discrete}
 use borrow.Author.Tests.{ltb-false, leb-true, eqb-true, not-false, lt-ltb, le-ltb, lt-leb, le-leb, ne_eqb}
@@ -136,6 +134,11 @@ exceeds_last k b s h = simp (lt-leb 128 b h)
 pub exceeds_more : (k b : ℕ) (s : List ℕ) → 128 ≤ b → exceeds (suc k) (b ∷ s) ≡ exceeds k s
 unfolding exceeds
 exceeds_more k b s h = simp (le-leb 128 b h)
+
+-- a number whose first group is its last
+pub read_one : (b : ℕ) (s : List ℕ) → b < 128 → read_number (b ∷ s) ≡ Number b 1
+unfolding read_number
+read_one b s h = simp (exceeds_last 8 b s h) (group_only b s h)
 
 -- what is below this has room in k bytes with the top bit set and 01h after them
 cap : ℕ → ℕ
@@ -400,27 +403,3 @@ bytes_cond false a b p q = q
 pub writing_keeps_bytes : (w out : List ℕ) → Bytes w → Bytes out → Bytes (written_to w out)
 unfolding written_to
 writing_keeps_bytes w out p q = bytes_cond (ltb (length out) (length w)) out (put out 0 w) q (bytes_put out 0 q (listed w p))
-
--- a number whose highest bit is at place 7 * k + r has k + 1 groups
-pub groups_to_bit : (k r n : ℕ) → r < 7 → 2 ^ (7 * k + r) ≤ n → n < 2 * 2 ^ (7 * k + r) → length (groups n) ≡ k + 1
-groups_to_bit zero r n h low high =
-    let small : 2 ^ r ≤ 2 ^ 6 = pow_mono (let few : r ≤ 6 = omega arith in few) in
-    let place : 2 ^ (7 * 0 + r) ≡ 2 ^ r = ap (λ (m : ℕ). 2 ^ m) (let e : 7 * 0 + r ≡ r = omega arith in e) in
-    ap length (groups_last n (omega arith))
-groups_to_bit (suc k) r n h low high =
-    let one : 2 ^ (7 + (7 * k + r)) ≡ 2 ^ 7 * 2 ^ (7 * k + r) = pow-add 2 7 (7 * k + r) in
-    let e : 7 * suc k + r ≡ 7 + (7 * k + r) = omega arith in
-    let two : 2 ^ (7 * suc k + r) ≡ 128 * 2 ^ (7 * k + r) = ap (λ (m : ℕ). 2 ^ m) e ∙ one in
-    let big : 0 < 2 ^ (7 * k + r) = one-le-pow (7 * k + r) 2 (omega arith) in
-    let more = groups_to_bit k r (n / 128) h (omega arith) (omega arith) in
-    omega (arith, ap length (groups_more n (omega arith)), more)
-
--- and 0, which has no bit, as many as 1
-pub groups_to_highest : (n m r : ℕ) → m ≡ max n 1 → 2 ^ r ≤ m → m < 2 * 2 ^ r → r / 7 + 1 ≡ length (groups n)
-groups_to_highest n m r e low high =
-    let place : 7 * (r / 7) + r % 7 ≡ r = omega arith in
-    let size : length (groups m) ≡ r / 7 + 1 = groups_to_bit (r / 7) (r % 7) m (omega arith) (rw place low) (rw place high) in
-    elim (ℕ_discrete n 0) [
-      | yes z ↦ omega (arith, size, ap length (groups_last m (omega arith)), ap length (groups_last n (omega arith)))
-      | no p ↦ let same_number : m ≡ n = omega arith in sym size ∙ ap (λ (l : ℕ). length (groups l)) same_number
-    ]

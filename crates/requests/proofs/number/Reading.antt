@@ -1,6 +1,6 @@
--- What the loop of `number::read` keeps: the bytes read so far, as a value and a place, and what is left to read.
+-- What the loop of `read_groups` keeps: the bytes read so far, as a value and a place, and what is left to read.
 -- Assumes nothing.
-use Prim.Native.Nat.{ℕ, suc, ◌+◌, ◌-◌, ◌*◌, ◌^◌, ◌≤◌, ◌<◌}
+use Prim.Native.Nat.{ℕ, suc, ◌+◌, ◌-◌, ◌*◌, ◌%◌, ◌^◌, ◌≤◌, ◌<◌}
 use mathlib.Core.Path.{◌≡◌, refl, sym, ap, ◌∙◌}
 use mathlib.Core.List.{List, ◌∷◌}
 use mathlib.Core.Bool.{true, false}
@@ -39,6 +39,13 @@ pub record Reading (s : List ℕ) (a p i : ℕ) : Type 0 where
 -- before the first byte
 pub start : (s : List ℕ) → Reading s 0 1 0
 start s = record { so_far = after_none (read_groups true s); limit = refl; at = omega arith; place = refl; low = omega arith }
+
+-- what a byte adds at its place: all of it where it is the last, and else what stands below its top bit
+group_last_value : (b : ℕ) → b < 128 → b % 128 ≡ b
+group_last_value b h = omega arith
+
+group_more_value : (b : ℕ) → 128 ≤ b → b < 256 → b % 128 ≡ b - 128
+group_more_value b h l = omega arith
 
 -- a group at place p adds at most 127 times the place
 pub group_fits : (p d : ℕ) → d < 128 → p * d ≤ p * 127
@@ -81,16 +88,17 @@ module _ {s : List ℕ} {a p i : ℕ} (inv : Reading s a p i) where
     pub last_zero : (i ≡ 9 → ⊥) → get_or s i 0 ≡ 0 → 0 < i → Refused 2 ≡ read_number s
     last_zero e z pos = done (Refused 2) next_byte (ends e (omega arith)) (rw (ne_eqb i 0 (λ w. omega arith)) (group_zero _ _ z))
 
-    pub only : (i ≡ 9 → ⊥) → get_or s i 0 < 128 → i ≡ 0 → Number (a + p * get_or s i 0) (i + 1) ≡ read_number s
-    only e small z = done (Number (get_or s i 0) 1) next_byte (ends e small) (rw (eq-eqb i 0 z) (group_only _ _ small))
+    pub only : (i ≡ 9 → ⊥) → get_or s i 0 < 128 → i ≡ 0 → Number (a + p * (get_or s i 0 % 128)) (i + 1) ≡ read_number s
+    only e small z = rw (group_last_value _ small) (done (Number (get_or s i 0) 1) next_byte (ends e small) (rw (eq-eqb i 0 z) (group_only _ _ small)))
 
-    pub last : (i ≡ 9 → ⊥) → get_or s i 0 < 128 → (get_or s i 0 ≡ 0 → ⊥) → Number (a + p * get_or s i 0) (i + 1) ≡ read_number s
-    last e small z = done (Number (get_or s i 0) 1) next_byte (ends e small) (group_last _ _ (eqb i 0) small z)
+    pub last : (i ≡ 9 → ⊥) → get_or s i 0 < 128 → (get_or s i 0 ≡ 0 → ⊥) → Number (a + p * (get_or s i 0 % 128)) (i + 1) ≡ read_number s
+    last e small z = rw (group_last_value _ small) (done (Number (get_or s i 0) 1) next_byte (ends e small) (group_last _ _ (eqb i 0) small z))
 
     -- a group that is not the last one is read, and the loop goes on
-    pub next : (i ≡ 9 → ⊥) → 128 ≤ get_or s i 0 → get_or s i 0 < 256 → Reading s (a + p * (get_or s i 0 - 128)) (p * 128) (i + 1)
+    pub next : (i ≡ 9 → ⊥) → 128 ≤ get_or s i 0 → get_or s i 0 < 256 → Reading s (a + p * (get_or s i 0 % 128)) (p * 128) (i + 1)
     next e big byte =
-        record {
+        rw (group_more_value _ big byte)
+        (record {
           so_far =
               inv.so_far
               ∙ ap (after i p a) (ap (read_groups (eqb i 0)) next_byte ∙ group_more _ _ (eqb i 0) big)
@@ -100,4 +108,4 @@ module _ {s : List ℕ} {a p i : ℕ} (inv : Reading s a p i) where
           at = omega (arith, inv.at);
           place = rw (add-one, pow-succ') (omega (arith, inv.place));
           low = omega (arith, inv.low, group_fits p (get_or s i 0 - 128) (omega arith));
-        }
+        })

@@ -11,7 +11,7 @@ use native.Mathlib.Decide.{ℕ_discrete}
 use borrow.Author.Tests.{eq-eqb, ne_eqb, leb-true}
 use lib.Dec.{leb}
 use lib.ListN.{length, take, drop, length-append, length-drop}
-use lib.Seq.{take-add, drop-append_seam, drop-append-le}
+use lib.Seq.{take-add, take_all, drop-append_seam, drop-append-le}
 use Rattle.formats.specs.Answer.{Answer, case}
 use Rattle.requests.specs.Number.{NumberRead, Number, Refused as NoNumber, groups, read_number}
 use Rattle.requests.specs.Forms.{Below}
@@ -25,7 +25,7 @@ use Rattle.formats.specs.declared.refusal.Refusal.{Refusal}
 use Rattle.requests.specs.declared.read.Read.{Read as Found}
 use Rattle.std.specs.Prelude.{Result, Ok, Err}
 use Rattle.formats.proofs.Bytes.{bytes_drop}
-use Rattle.formats.proofs.Cells.{cells, of_cells}
+use Rattle.formats.proofs.Cells.{part_cells}
 use Rattle.formats.proofs.Tests.{split, passed}
 use Rattle.requests.proofs.number.Laws.{reading_undoes_writing, only_written, read_below, read_within, read_positive, refusals, read_stays, refused_stays, valued}
 use Rattle.requests.proofs.request.Cases.{argument_refused, argument_limit, argument_value, kind_refused, kind_limit_lem, kind_value}
@@ -39,7 +39,7 @@ limits_cons : (a : Argument) (rest : List Argument) (v : ℕ) (vs : List ℕ) �
 unfolding first_limit
 limits_cons a rest v vs z e = simp (eq-eqb (limit a v) 0 z) e
 
-limits_split : (a : Argument) (rest : List Argument) (v : ℕ) (vs : List ℕ) → first_limit (a ∷ rest) (v ∷ vs) ≡ 0 → (limit a v ≡ 0) × (first_limit rest vs ≡ 0)
+pub limits_split : (a : Argument) (rest : List Argument) (v : ℕ) (vs : List ℕ) → first_limit (a ∷ rest) (v ∷ vs) ≡ 0 → (limit a v ≡ 0) × (first_limit rest vs ≡ 0)
 unfolding first_limit
 limits_split a rest v vs e =
     elim (ℕ_discrete (limit a v) 0) [
@@ -116,7 +116,7 @@ reading_undoes_writing_arguments (a ∷ rest) (v ∷ vs) t e z b =
     ∙ ap (Values (v ∷ vs)) (sym (length-append (groups v) (numbers vs)))
 
 -- a request, its kind and its values
-kind_passes_lem : (q : Request) → kind_limit (kind_of q) ≡ 0
+pub kind_passes_lem : (q : Request) → kind_limit (kind_of q) ≡ 0
 kind_passes_lem (Register c f) = refl
 kind_passes_lem (Record c j f h) = refl
 kind_passes_lem (CheckOut c j) = refl
@@ -144,7 +144,7 @@ values_size (MoveOut j h f) = refl
 values_size (MoveIn c j h) = refl
 values_size (Delete j f) = refl
 
-request_again : (q : Request) → request_of (kind_of q) (values_of q) ≡ q
+pub request_again : (q : Request) → request_of (kind_of q) (values_of q) ≡ q
 unfolding request_of
 request_again (Register c f) = refl
 request_again (Record c j f h) = refl
@@ -220,29 +220,40 @@ by_kind P a b c d e f g k z =
           ]
     ]
 
--- the request of a kind with as many values as its schema has arguments has that kind and those values
-record Made (k : ℕ) (vs : List ℕ) : Type 0 where
-  kind_is : kind_of (request_of k vs) ≡ k
-  values_are : values_of (request_of k vs) ≡ vs
+-- the request of a kind with at least as many values as its schema has arguments has that kind and the first of those values
+pub record Made (k : ℕ) (vs : List ℕ) : Type 0 where
+  pub kind_is : kind_of (request_of k vs) ≡ k
+  pub values_are : values_of (request_of k vs) ≡ take (length (schema k)) vs
 
 Makes : ℕ → Type 0
-Makes k = (vs : List ℕ) → length vs ≡ length (schema k) → Made k vs
+Makes k = (vs : List ℕ) → length (schema k) ≤ length vs → Made k vs
 
 makes : (k : ℕ) → kind_limit k ≡ 0 → Makes k
 unfolding Makes request_of schema
 makes =
     by_kind Makes
-    (λ vs e. record { kind_is = refl; values_are = of_cells (λ (l : List ℕ). cells 7 vs 0 ≡ l) 7 vs e refl })
-    (λ vs e. record { kind_is = refl; values_are = of_cells (λ (l : List ℕ). cells 9 vs 0 ≡ l) 9 vs e refl })
-    (λ vs e. record { kind_is = refl; values_are = of_cells (λ (l : List ℕ). cells 2 vs 0 ≡ l) 2 vs e refl })
-    (λ vs e. record { kind_is = refl; values_are = of_cells (λ (l : List ℕ). cells 2 vs 0 ≡ l) 2 vs e refl })
-    (λ vs e. record { kind_is = refl; values_are = of_cells (λ (l : List ℕ). cells 6 vs 0 ≡ l) 6 vs e refl })
-    (λ vs e. record { kind_is = refl; values_are = of_cells (λ (l : List ℕ). cells 3 vs 0 ≡ l) 3 vs e refl })
-    (λ vs e. record { kind_is = refl; values_are = of_cells (λ (l : List ℕ). cells 5 vs 0 ≡ l) 5 vs e refl })
+    (λ vs h. record { kind_is = refl; values_are = sym (part_cells 7 0 vs h) })
+    (λ vs h. record { kind_is = refl; values_are = sym (part_cells 9 0 vs h) })
+    (λ vs h. record { kind_is = refl; values_are = sym (part_cells 2 0 vs h) })
+    (λ vs h. record { kind_is = refl; values_are = sym (part_cells 2 0 vs h) })
+    (λ vs h. record { kind_is = refl; values_are = sym (part_cells 6 0 vs h) })
+    (λ vs h. record { kind_is = refl; values_are = sym (part_cells 3 0 vs h) })
+    (λ vs h. record { kind_is = refl; values_are = sym (part_cells 5 0 vs h) })
 
-made : {k : ℕ} (vs : List ℕ) → kind_limit k ≡ 0 → length vs ≡ length (schema k) → Made k vs
+pub made : {k : ℕ} (vs : List ℕ) → kind_limit k ≡ 0 → length (schema k) ≤ length vs → Made k vs
 unfolding Makes
-made {k} vs z e = makes k z vs e
+made {k} vs z h = makes k z vs h
+
+-- and all of them where they are as many
+pub record MadeOf (k : ℕ) (vs : List ℕ) : Type 0 where
+  pub kind_is : kind_of (request_of k vs) ≡ k
+  pub values_are : values_of (request_of k vs) ≡ vs
+
+pub made_of : {k : ℕ} (vs : List ℕ) → kind_limit k ≡ 0 → length vs ≡ length (schema k) → MadeOf k vs
+made_of {k} vs z e =
+    let few : length (schema k) ≤ length vs = omega (arith, e) in
+    let m = made vs z few in
+    record { kind_is = m.kind_is; values_are = m.values_are ∙ take_all (length (schema k)) vs (omega arith) }
 
 -- what is known of a request that was read in k bytes of s
 pub record ReadForm (s : List ℕ) (q : Request) (k : ℕ) : Type 0 where
@@ -259,7 +270,7 @@ GoodRequest s (Refused w) = 0 < w
 good_as : (s : List ℕ) (v k : ℕ) → read_number s ≡ Number v k → kind_limit v ≡ 0 → (r : ArgumentsRead) → Good (schema v) (drop k s) r → GoodRequest s (as_request v k r)
 unfolding Good GoodRequest limit_of written numbers
 good_as s v k e z (Values vs n) f =
-    let m = made vs z f.size in
+    let m = made_of vs z f.size in
     record {
       within = omega (arith, f.within, read_within s e, length-drop k s);
       positive = omega (arith, read_positive s e);

@@ -12,17 +12,15 @@ use lib.Dec.{eqb}
 use lib.ListN.{length, take, drop, get_or, length-append, drop_of_length-le}
 use lib.Seq.{drop-cons}
 use Rattle.requests.specs.Number.{groups}
-use Rattle.requests.specs.Request.{limit, schema, kind_of, values_of, numbers, written, first_limit, limit_of}
+use Rattle.requests.specs.Request.{limit, schema, numbers, first_limit}
 use Rattle.formats.specs.Refusal.{number_of}
 use Rattle.formats.specs.declared.refusal.Refusal.{Refusal}
 use Rattle.requests.proofs.Refusals.{refusal_positive}
-use Rattle.requests.specs.Values.{filled, Holds}
+use Rattle.requests.specs.Values.{written_numbers}
 use Rattle.requests.specs.declared.request.Argument.{Argument}
-use Rattle.requests.specs.declared.request.Request.{Request}
-use Rattle.requests.specs.declared.request.Request.TheVariants.{Register, Record, CheckOut, CheckIn, MoveOut, MoveIn, Delete}
-use Rattle.formats.specs.Part.{put, fitting}
-use Rattle.formats.proofs.Part.{put_next, put_fitting}
-use Rattle.formats.proofs.Stores.{Storing, store_all, start, done as store_done}
+use Rattle.formats.specs.Part.{put}
+use Rattle.formats.proofs.Part.{put_length, put_next}
+use Rattle.formats.proofs.Stores.{Storing, store_all, start, stored}
 
 -- a schema has at most nine arguments
 size_cond : (t : Bool) (a b : List Argument) → length a ≤ 9 → length b ≤ 9 → length (cond t a b) ≤ 9
@@ -39,37 +37,13 @@ schema_size k =
     (size_cond (eqb k 5) _ _ (omega arith)
     (size_cond (eqb k 6) _ _ (omega arith) (size_cond (eqb k 7) _ _ (omega arith) (omega arith)))))))
 
--- a request's values in nine places, where the zeros at the end count for nothing
-without_zeros : (q : Request) → take (length (schema (kind_of q))) (filled (values_of q)) ≡ values_of q
-unfolding filled schema
-without_zeros (Register c f) = refl
-without_zeros (Record c j f h) = refl
-without_zeros (CheckOut c j) = refl
-without_zeros (CheckIn j f) = refl
-without_zeros (MoveOut j h f) = refl
-without_zeros (MoveIn c j h) = refl
-without_zeros (Delete j f) = refl
+-- the written form of a kind and its values begins with the kind
+pub written_parts : (kind : ℕ) (vs : List ℕ) → written_numbers kind vs ≡ groups kind ++ numbers (take (length (schema kind)) vs)
+unfolding written_numbers numbers
+written_parts kind vs = refl
 
-filled_limit : (q : Request) → first_limit (schema (kind_of q)) (filled (values_of q)) ≡ limit_of q
-unfolding filled schema first_limit limit_of
-filled_limit (Register c f) = refl
-filled_limit (Record c j f h) = refl
-filled_limit (CheckOut c j) = refl
-filled_limit (CheckIn j f) = refl
-filled_limit (MoveOut j h f) = refl
-filled_limit (MoveIn c j h) = refl
-filled_limit (Delete j f) = refl
-
-module _ {q : Request} {kind : ℕ} {vs : List ℕ} (h : Holds q kind vs) where
-  pub used_are : take (length (schema kind)) vs ≡ values_of q
-  used_are = rw (h.kind_is, h.values_are) (without_zeros q)
-
-  pub limit_is : first_limit (schema kind) vs ≡ limit_of q
-  limit_is = rw (h.kind_is, h.values_are) (filled_limit q)
-
-  pub written_is : groups kind ++ numbers (values_of q) ≡ written q
-  unfolding written numbers
-  written_is = rw h.kind_is refl
+pub written_length : (kind : ℕ) (vs : List ℕ) → length (written_numbers kind vs) ≡ length (groups kind) + length (numbers (take (length (schema kind)) vs))
+written_length kind vs = ap length (written_parts kind vs) ∙ length-append (groups kind) (numbers (take (length (schema kind)) vs))
 
 -- the value at the next place
 beside : (vs : List ℕ) (i : ℕ) → i < length vs → drop i vs ≡ get_or vs i 0 ∷ drop (i + 1) vs
@@ -89,15 +63,9 @@ pub count_next : {vs : List ℕ} {all n i : ℕ} (k : ℕ) → Counting vs all n
 count_next {vs} {i = i} k inv h e small =
     record { total = omega (arith, inv.total, simp length-append at (ap length (numbers_next vs i h))); most = omega (arith, inv.most) }
 
--- what the loop of `store` keeps: the numbers before place i are stored, and there is room for the others
-pub record Putting (vs out₀ : List ℕ) (a : ℕ) (out : List ℕ) (at i : ℕ) : Type 0 where
-  pub storing : Storing (numbers vs) out₀ a out at (numbers (drop i vs))
-  pub room : a + length (numbers vs) ≤ length out₀
-
 -- the kind comes before them
-pub count_kind : {q : Request} {kind : ℕ} {vs : List ℕ} (n : ℕ) → Holds q kind vs → n ≡ length (groups kind) → n ≤ 10 → Counting (values_of q) (length (written q)) n 0
-count_kind {q} {kind} n h e small =
-    record { total = omega (arith, simp length-append at (ap length (written_is h))); most = omega arith }
+pub count_kind : (kind : ℕ) (vs : List ℕ) {n : ℕ} → n ≡ length (groups kind) → n ≤ 10 → Counting (take (length (schema kind)) vs) (length (written_numbers kind vs)) n 0
+count_kind kind vs e small = record { total = omega (arith, e, written_length kind vs); most = omega arith }
 
 pub count_done : {vs : List ℕ} {all n i : ℕ} → Counting vs all n i → length vs ≤ i → n ≡ all
 unfolding numbers
@@ -125,41 +93,47 @@ module _ {sch : List Argument} {vs : List ℕ} {n : ℕ} (inv : first_limit sch 
   pub limit_none : (sch ≡ []) ⊎ (vs ≡ []) → 0 ≡ n
   limit_none e = none_left sch vs e ∙ inv
 
+-- what the loop of `store` keeps: the numbers before place i are stored, and there is room for the others
+pub record Putting (vs out₀ : List ℕ) (a : ℕ) (out : List ℕ) (at i : ℕ) : Type 0 where
+  pub storing : Storing (numbers vs) out₀ a out at (numbers (drop i vs))
+  pub room : a + length (numbers vs) ≤ length out₀
+
 module _ {vs out₀ : List ℕ} {a : ℕ} {out : List ℕ} {at i : ℕ} (inv : Putting vs out₀ a out at i) where
   module _ (h : i < length vs) where
     -- there is room for the next number
-    room_next : at + length (groups (get_or vs i 0)) ≤ length out
+    pub room_next : at + length (groups (get_or vs i 0)) ≤ length out
     room_next = omega (arith, inv.storing.count, inv.storing.size, inv.room, simp length-append at (ap length (numbers_next vs i h)))
 
-    pub put_number : {out' : List ℕ} {at' : ℕ} → (at' ≡ at + length (fitting out at (groups (get_or vs i 0)))) × (out' ≡ put out at (fitting out at (groups (get_or vs i 0))))
-        → Putting vs out₀ a out' at' (i + 1)
-    put_number e =
-        let whole = put_fitting out at (groups (get_or vs i 0)) room_next e in
+    pub put_number : {out' : List ℕ} {at' : ℕ} → at' ≡ at + length (groups (get_or vs i 0)) → out' ≡ put out at (groups (get_or vs i 0)) → Putting vs out₀ a out' at' (i + 1)
+    put_number e f =
         record {
-          storing = rw (whole.0, whole.1) (store_all (groups (get_or vs i 0)) (rw (numbers_next vs i h) at inv.storing) room_next);
+          storing = rw (e, f) (store_all (groups (get_or vs i 0)) (rw (numbers_next vs i h) at inv.storing) room_next);
           room = inv.room;
         }
 
-  pub put_done : length vs ≤ i → out ≡ put out₀ a (numbers vs)
+  pub put_done : length vs ≤ i → (at ≡ a + length (numbers vs)) × (out ≡ put out₀ a (numbers vs))
   unfolding numbers
-  put_done h = store_done (rw (drop_of_length-le vs h) at inv.storing)
+  put_done h = stored inv.storing (ap numbers (drop_of_length-le vs h))
 
--- a request's kind and then its numbers, put one after the other, are its written form, where there is room for it
-module _ {q : Request} {kind : ℕ} {vs : List ℕ} (out : List ℕ) (h : Holds q kind vs) (room : length (written q) ≤ length out)
-    {a : ℕ} {out₁ : List ℕ} (e : (a ≡ 0 + length (fitting out 0 (groups kind))) × (out₁ ≡ put out 0 (fitting out 0 (groups kind)))) where
-  whole : (a ≡ 0 + length (groups kind)) × (out₁ ≡ put out 0 (groups kind))
-  whole = put_fitting out 0 (groups kind) (omega (arith, simp length-append at (ap length (written_is h)))) e
+-- a kind and then its values, put one after the other, are their written form, where there is room for it
+module _ (kind : ℕ) (vs out : List ℕ) (room : length (written_numbers kind vs) ≤ length out) where
+  pub room_kind : 0 + length (groups kind) ≤ length out
+  room_kind = omega (arith, room, written_length kind vs)
 
-  pub put_kind : length out₁ ≡ length out → Putting (values_of q) out₁ a out₁ a 0
-  put_kind same =
-      record {
-        storing = start (numbers (values_of q)) out₁ a;
-        room = omega (arith, whole.0, simp length-append at (ap length (written_is h)));
-      }
+  module _ {a : ℕ} {out₁ : List ℕ} (e : a ≡ 0 + length (groups kind)) (f : out₁ ≡ put out 0 (groups kind)) where
+    pub put_kind : Putting (take (length (schema kind)) vs) out₁ a out₁ a 0
+    put_kind =
+        let same : length out₁ ≡ length out = ap length f ∙ put_length out (groups kind) 0 room_kind in
+        record {
+          storing = start (numbers (take (length (schema kind)) vs)) out₁ a;
+          room = omega (arith, e, room, written_length kind vs, same);
+        }
 
-  pub put_written : {out₂ : List ℕ} → out₂ ≡ put out₁ a (numbers (values_of q)) → out₂ ≡ put out 0 (written q)
-  put_written e₂ =
-      let w = written_is h in
-      e₂
-      ∙ rw (whole.1, whole.0) (put_next out (groups kind) (numbers (values_of q)) 0 (omega (arith, simp length-append at (ap length w))))
-      ∙ ap (put out 0) w
+    pub put_written : {b : ℕ} {out₂ : List ℕ} → (b ≡ a + length (numbers (take (length (schema kind)) vs))) × (out₂ ≡ put out₁ a (numbers (take (length (schema kind)) vs)))
+        → (b ≡ length (written_numbers kind vs)) × (out₂ ≡ put out 0 (written_numbers kind vs))
+    put_written g = (
+      omega (arith, e, g.0, written_length kind vs),
+      g.1
+          ∙ rw (f, e) (put_next out (groups kind) (numbers (take (length (schema kind)) vs)) 0 (omega (arith, room, written_length kind vs)))
+          ∙ ap (put out 0) (sym (written_parts kind vs)),
+    )

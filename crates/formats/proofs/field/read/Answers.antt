@@ -1,10 +1,8 @@
 -- `formats::field::read` meets its contract: eight bytes as they are, and fewer one by one.
 -- Assumes nothing.
-use Rattle.std.proofs.Common.{◌∙◌, sym, ap, arith}
-use lib.Seq.{take_all}
+use Rattle.std.proofs.Common.{◌∙◌, ap, arith}
 use Rattle.std.specs.Int.{w64, from_be_bytes}
 use Rattle.formats.specs.Part.{part}
-use Rattle.formats.specs.Field.{number}
 use Rattle.formats.proofs.Part.{part_length}
 use Rattle.formats.proofs.field.Laws.{from_be, read_start, read_next}
 use Rattle.formats.proofs.field.read.Goals as goal

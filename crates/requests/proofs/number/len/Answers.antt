@@ -1,7 +1,11 @@
--- `requests::number::len`: the highest bit tells the count of groups.
+-- `requests::number::len`: what the table holds at the count of leading zeros.
 -- Assumes nothing.
-use Rattle.requests.proofs.number.Laws.{groups_to_highest}
+use Rattle.std.proofs.Common.{◌∙◌, arith}
+use Rattle.requests.proofs.number.Lengths.{at_leading_zeros, at_most_ten}
 use Rattle.requests.proofs.number.len.Goals as goal
 
 pub returns-clause-count : goal.returns-clause-count
-returns-clause-count c = groups_to_highest c.args.x c.max.result c.ilog2.result c.max.ensures c.ilog2.ensures.power_le c.ilog2.ensures.next_power_gt
+returns-clause-count c = c.from.ensures ∙ at_leading_zeros c.args.x c.ranges.x.fits
+
+pub returns-clause-at_most_ten : goal.returns-clause-at_most_ten
+returns-clause-at_most_ten c = omega (arith, c.from.ensures, at_leading_zeros c.args.x c.ranges.x.fits, at_most_ten c.args.x c.ranges.x.fits)

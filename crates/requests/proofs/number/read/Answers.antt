@@ -1,37 +1,14 @@
--- `requests::number::read`: at each return the tests that led there say what reading comes to.
+-- `requests::number::read`: a byte below 128 is the whole number.
 -- Assumes nothing.
-use Rattle.std.proofs.Common.{ap, arith}
-use Rattle.requests.specs.Number.{number_answer}
-use Rattle.requests.proofs.number.Reading.{end, tenth, tenth_not, last_zero, only, last, next}
+use Rattle.std.proofs.Common.{ℕ, List, [], ◌∷◌, ◌≡◌, ◌<◌, sym, ap, ◌∙◌, Some}
+use Rattle.std.specs.List.{slice_get}
+use Rattle.requests.specs.Number.{Number, read_number, number_answer}
+use Rattle.requests.proofs.number.Laws.{read_one}
 use Rattle.requests.proofs.number.read.Goals as goal
-use Rattle.requests.proofs.number.read.Goals.{else-b-eq0-via-then-b-eq0+else-is_longer, else-b-eq0-via-else-b-eq0}
 
-pub returns-then-b-eq1 : goal.returns-then-b-eq1
-returns-then-b-eq1 c =
-    ap number_answer (tenth c.loop-i.invariant c.loop-i-test.true c.if-i-eq9.true (rw c.from-b.ensures at c.if-b-eq1.true))
+at_front : (s : List ℕ) {b : ℕ} → Some b ≡ slice_get s 0 → b < 128 → Number b 1 ≡ read_number s
+at_front [] e h = cc
+at_front (a ∷ s) {b} e h = let same : b ≡ a = cc in rw (sym same) (sym (read_one b s h))
 
-pub returns-then-i-eq9 : goal.returns-then-i-eq9
-returns-then-i-eq9 c =
-    ap number_answer (tenth_not c.loop-i.invariant c.loop-i-test.true c.if-i-eq9.true (rw c.from-b.ensures at c.if-b-eq1.false))
-
-pub returns-then-is_longer : goal.returns-then-is_longer
-returns-then-is_longer c =
-    ap number_answer (last_zero c.loop-i.invariant c.loop-i-test.true c.if-i-eq9.false (rw c.from-b.ensures at c.if-b-eq0.true) c.if-is_longer.true)
-
-pub returns-then-b-lt128 : goal.returns-then-b-lt128
-returns-then-b-lt128 c =
-    let small = rw c.from-b.ensures at c.if-b-lt128.true in
-    rw c.from-b.ensures
-    (ap number_answer
-    (elim c.else-b-eq0.branch [
-      | else-b-eq0-via-then-b-eq0+else-is_longer w ↦ only c.loop-i.invariant c.loop-i-test.true c.if-i-eq9.false small (omega arith)
-      | else-b-eq0-via-else-b-eq0 w ↦ last c.loop-i.invariant c.loop-i-test.true c.if-i-eq9.false small (rw c.from-b.ensures at w.if-b-eq0.false)
-    ]))
-
-pub loop-i-preserved : goal.loop-i-preserved
-loop-i-preserved c =
-    rw c.from-b.ensures
-    (next c.loop-i.invariant c.loop-i-test.true c.if-i-eq9.false (rw c.from-b.ensures at c.if-b-lt128.false) (omega (arith, c.type_inv.s c.loop-i.i)))
-
-pub returns : goal.returns
-returns c = ap number_answer (end c.loop-i.invariant c.loop-i-test.false)
+pub returns-in-Some : goal.returns-in-Some
+returns-in-Some c = ap number_answer (ap (λ (n : ℕ). Number n 1) c.from.ensures ∙ at_front c.args.s.now c.in-Some.ensures.value c.if-byte-lt128.true)

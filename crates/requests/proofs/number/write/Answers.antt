@@ -1,8 +1,7 @@
--- `requests::number::write`: it tests the length and leaves the rest to `write_at`.
+-- `requests::number::write`: it tests the length and leaves the rest to `store`.
 -- Assumes nothing.
 use Rattle.std.proofs.Common.{arith}
 use Rattle.requests.specs.Number.{groups}
-use Rattle.formats.proofs.Part.{put_fitting}
 use Rattle.requests.proofs.number.Laws.{too_short, wrote}
 use Rattle.requests.proofs.number.write.Goals as goal
 
@@ -13,8 +12,5 @@ returns-then-out-len c =
 
 pub returns : goal.returns
 returns c =
-    let out = c.args.out.now in
-    let w = groups c.args.x in
-    let put = put_fitting out 0 w (omega arith) (c.write_at.ensures.place, c.write_at.ensures.bytes) in
-    let done = wrote w out (omega arith) (omega arith) put.1 in
+    let done = wrote (groups c.args.x) c.args.out.now (omega arith) (omega arith) c.store.ensures.bytes in
     record { answer = done.0; bytes = done.1 }

@@ -1,8 +1,9 @@
 -- The bytes counted and those of the numbers left make up the written form.
-use Rattle.std.proofs.Common.{length}
-use Rattle.requests.specs.Request.{values_of, written}
+use Rattle.std.proofs.Common.{length, take}
+use Rattle.requests.specs.Request.{schema}
+use Rattle.requests.specs.Values.{written_numbers}
 use Rattle.requests.proofs.request.Loops.{Counting}
 use Rattle.requests.proofs.request.len.Given as goal
 
 abbrev pub invariant-loop-value : goal.invariant-loop-value
-invariant-loop-value l = Counting (values_of l.fn.request) (length (written l.fn.request)) l.n l.value-index
+invariant-loop-value l = Counting (take (length (schema l.kind)) l.values) (length (written_numbers l.kind l.values)) l.n l.value-index

@@ -5,14 +5,14 @@ use Rattle.std.specs.Slice.Iter.{iter_rest}
 use Rattle.std.proofs.lemmas.Slice.Zip.{Zip-more, either_empty_from_Zip}
 use Rattle.formats.specs.Refusal.{answer_number, number_of}
 use Rattle.requests.specs.Request.{first_limit}
-use Rattle.requests.proofs.request.Loops.{limit_is, limit_kept, limit_met, limit_none}
+use Rattle.requests.proofs.request.Loops.{limit_kept, limit_met, limit_none}
 use Rattle.requests.proofs.request.limit.Goals as goal
 
 pub loop-argument-init : goal.loop-argument-init
 loop-argument-init c =
     let zip = c.zip-argument-items.ensures in
     rw c.into_iter-argument-iterator.ensures.into_iter_gives
-    (ap₂ first_limit (ap iter_rest zip.first ∙ c.iter.ensures.rest ∙ c.schema.ensures) zip.second.0 ∙ limit_is c.numbers_of-numbers.ensures)
+    (ap₂ first_limit (ap iter_rest zip.first ∙ c.iter.ensures.rest ∙ c.schema.ensures) zip.second.0)
 
 pub loop-argument-preserved : goal.loop-argument-preserved
 loop-argument-preserved c =

@@ -1,23 +1,31 @@
 -- `requests::request::store`: the loop puts the numbers one after the other.
 -- Assumes nothing.
-use Rattle.std.proofs.Common.{◌∙◌, ap, arith, length}
-use Rattle.requests.proofs.request.Loops.{used_are, put_number, put_done, put_kind, put_written}
+use Rattle.std.proofs.Common.{ap, arith, length}
+use Rattle.requests.proofs.request.Loops.{room_kind, room_next, put_number, put_done, put_kind, put_written}
 use Rattle.requests.proofs.request.store.Goals as goal
+
+pub store-at-requires : goal.store-at-requires
+store-at-requires c = room_kind c.args.kind c.args.values.now c.args.out.now c.requires
 
 pub loop-value-init : goal.loop-value-init
 loop-value-init c =
-    let write = c.write_at-at in
-    put_kind c.args.out.now c.numbers_of-numbers.ensures c.requires (write.ensures.place, write.ensures.bytes) write.auto.out
+    let kind = c.store-at.ensures in
+    put_kind c.args.kind c.args.values.now c.args.out.now c.requires kind.place kind.bytes
+
+pub store-at-requires-in-loop-value : goal.store-at-requires-in-loop-value
+store-at-requires-in-loop-value c =
+    let items = c.arguments-value-items.ensures in
+    rw items (room_next c.loop-value.invariant (omega (arith, ap length items)))
 
 pub loop-value-preserved : goal.loop-value-preserved
 loop-value-preserved c =
-    let write = c.write_at-at-in-loop-value in
-    let items = c.used-value-items.ensures ∙ used_are c.numbers_of-numbers.ensures in
-    put_number c.loop-value.invariant (omega (arith, ap length items)) (rw items at write.ensures.place, rw items at write.ensures.bytes)
+    let next = c.store-at-in-loop-value.ensures in
+    let items = c.arguments-value-items.ensures in
+    put_number c.loop-value.invariant (omega (arith, ap length items)) (rw items at next.place) (rw items at next.bytes)
 
 pub returns : goal.returns
 returns c =
-    let write = c.write_at-at in
-    let items = c.used-value-items.ensures ∙ used_are c.numbers_of-numbers.ensures in
-    put_written c.args.out.now c.numbers_of-numbers.ensures c.requires (write.ensures.place, write.ensures.bytes)
-    (put_done c.loop-value.invariant (omega (arith, ap length items)))
+    let kind = c.store-at.ensures in
+    let all = put_written c.args.kind c.args.values.now c.args.out.now c.requires kind.place kind.bytes
+    (put_done c.loop-value.invariant (omega (arith, ap length c.arguments-value-items.ensures))) in
+    record { count = all.0; bytes = all.1 }
