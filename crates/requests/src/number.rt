@@ -22,7 +22,7 @@ pub fn read(s: &[u8]) -> Result<Read<u64>, Refusal>
     }
 }
 
-// The same, group by group. A group's value is added before it is known whether it is the last, as the loop does for every other.
+// The same, group by group. A group is added before the test whether it is the last one, so that no product is left for the return.
 #[inline(always)]
 fn read_groups(s: &[u8]) -> Result<Read<u64>, Refusal>
     ensures { answer_of number_values result ≡ number_answer (read_number s.now) }
