@@ -28,6 +28,14 @@ static void show(const char *step, uint64_t answer)
     printf("%-44s %2" PRIu64 "  %s\n", step, answer, counter_text(answer));
 }
 
+/* How many entries it reads does not matter here. */
+static void move_in(const char *step, uint64_t title, uint64_t entry)
+{
+    uint64_t entries_read;
+
+    show(step, counter_move_in(SHOP, title, entry, hash, &entries_read));
+}
+
 static void register_title(uint64_t title, uint64_t rights, uint64_t permits)
 {
     show("register", counter_register(LEDGER, title, 2, 0, rights, permits, title_key, sti_key));
@@ -56,10 +64,10 @@ int main(void)
 
     /* Of four moves three are left; loans without a limit are not in the total. */
     register_title(2, 4, COUNTER_UNLIMITED);
-    show("move title 2 in to entry 9", counter_move_in(SHOP, 2, 9, hash));
+    move_in("move title 2 in to entry 9", 2, 9);
 
     register_title(3, 4, 4);
-    show("move title 3 in to entry 10", counter_move_in(SHOP, 3, 10, hash));
+    move_in("move title 3 in to entry 10", 3, 10);
     show("delete entry 10", counter_delete(SHOP, 10, f1, f2, f3, f4));
 
     print_sheet();

@@ -44,6 +44,15 @@ static void show_copies(bool pair, const uint8_t *t, size_t t_len, const uint8_t
         printf("    copies of title %" PRIu64 ": %" PRIu64 "\n", content, copies);
 }
 
+/* Whatever is answered, the till learns how many entries were read in search of a copy, and can budget its screen updates. */
+static void show_move_in(const char *step, uint64_t content, uint64_t entry, uint64_t hash)
+{
+    uint64_t entries_read;
+
+    show(step, counter_move_in(COUNTER_AUDIO, LEDGER, TITLES, RULES, content, entry, hash, &entries_read));
+    printf("    entries read: %" PRIu64 "\n", entries_read);
+}
+
 /* The same functions serve pictures; the pair says which tables they are lent, and other tables are refused. */
 static void lend_a_picture(uint64_t f1)
 {
@@ -97,16 +106,17 @@ int main(void)
     show("check out to entry 7", counter_check_out(COUNTER_AUDIO, LEDGER, TITLES, RULES, title, 7));
     show("check out to entry 8 too", counter_check_out(COUNTER_AUDIO, LEDGER, TITLES, RULES, title, 8));
     show_copies(COUNTER_AUDIO, TITLES, RULES, title);
-    show("move in to entry 9 while a copy is out", counter_move_in(COUNTER_AUDIO, LEDGER, TITLES, RULES, title, 9, hash));
+    show_move_in("move in to entry 9 while a copy is out", title, 9, hash);
     show("check in entry 7, its own key as the filler", counter_check_in(COUNTER_AUDIO, LEDGER, TITLES, RULES, 7, title_key));
     show("check in entry 7", counter_check_in(COUNTER_AUDIO, LEDGER, TITLES, RULES, 7, f1));
     show_copies(COUNTER_AUDIO, TITLES, RULES, title);
 
-    show("move in to entry 9", counter_move_in(COUNTER_AUDIO, LEDGER, TITLES, RULES, title, 9, hash));
+    show_move_in("move in to entry 9", title, 9, hash);
+    show_move_in("move in while the title is away", title, 10, hash);
     show("check out while the title is away", counter_check_out(COUNTER_AUDIO, LEDGER, TITLES, RULES, title, 7));
     show("move out with another hash", counter_move_out(COUNTER_AUDIO, LEDGER, TITLES, RULES, 9, hash + 1, f1, f2, f3, f4));
     show("move out", counter_move_out(COUNTER_AUDIO, LEDGER, TITLES, RULES, 9, hash, f1, f2, f3, f4));
-    show("move in to entry 10", counter_move_in(COUNTER_AUDIO, LEDGER, TITLES, RULES, title, 10, hash));
+    show_move_in("move in to entry 10", title, 10, hash);
     show("move out: the fourth move", counter_move_out(COUNTER_AUDIO, LEDGER, TITLES, RULES, 10, hash, f1, f2, f3, f4));
 
     show("delete entry 10", counter_delete(COUNTER_AUDIO, LEDGER, TITLES, RULES, 10, f1, f2, f3, f4));

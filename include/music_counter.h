@@ -55,10 +55,11 @@
  * THE ANSWER
  *
  * Every function answers a number: COUNTER_DONE (0), or the number of a refusal. A refusal changes no byte of any buffer.
- * The first test that fails gives the answer, and each function's comment has its numbers in the order tested. The seven
- * calls, formatting and tally test in the order of the numbers. The sheet tests 1 last, after 7, 8 and 9. Reading a request
- * tests each number of the request for 1, for 2 and for its own limit (3 to 6) before it reads the next. Writing one tests
- * its kind and arguments in their order (3 to 6), and 1 last. counter_text names a number in words.
+ * Places that a function writes numbers to keep their values on a refusal, but for *entries_read of counter_move_in, which
+ * is always written. The first test that fails gives the answer, and each function's comment has its numbers in the order
+ * tested. The seven calls, formatting and tally test in the order of the numbers. The sheet tests 1 last, after 7, 8 and 9.
+ * Reading a request tests each number of the request for 1, for 2 and for its own limit (3 to 6) before it reads the next.
+ * Writing one tests its kind and arguments in their order (3 to 6), and 1 last. counter_text names a number in words.
  *
  * FACTS AND FILLERS
  *
@@ -83,7 +84,7 @@ extern "C" {
  * The interface that this header declares: 1 more with each release that changes a declaration. The linker does not compare
  * parameters, so compile a till anew with the header of its library.
  */
-#define COUNTER_INTERFACE 3
+#define COUNTER_INTERFACE 4
 
 /* The two pairs of tables, for `bool pair`. */
 #define COUNTER_AUDIO false
@@ -223,9 +224,13 @@ uint64_t counter_move_out(bool pair, uint8_t *ledger, size_t ledger_len, uint8_t
  * Answers 4, 5, 7, 8, 9; 10 where the entry is not free; 11 where the row is above R or not here; 12 where its trigger is 1
  * or its rights are 0; 14 where a copy of the title is on the card.
  * Done: the entry is full with the row's facts, rights one less, or 15 as before, and the hash; the row is away.
+ *
+ * Whatever it answers, *entries_read is how many entries the test for 14 read, from entry 1 on: 0 where an earlier test
+ * refused; with 14 the number of the first entry that is a copy of the title; where the move in is done, all 999. What stood
+ * there before counts for nothing.
  */
 uint64_t counter_move_in(bool pair, uint8_t *ledger, size_t ledger_len, uint8_t *titles, size_t titles_len, uint8_t *rules,
-                         size_t rules_len, uint64_t content, uint64_t entry, uint64_t hash);
+                         size_t rules_len, uint64_t content, uint64_t entry, uint64_t hash, uint64_t *entries_read);
 
 /*
  * Deletes what an entry of the card has: a copy, or a full title.

@@ -46,7 +46,7 @@ static uint64_t near(uint64_t usual, uint64_t edge)
 struct state {
     struct shop shop;
     size_t ledger_len, titles_len, rules_len;
-    uint64_t copies;
+    uint64_t copies, entries_read;
     uint8_t text[COUNTER_SHEET_SIZE];
     size_t used;
 };
@@ -222,7 +222,7 @@ static uint64_t perform(const struct counter *counter, struct state *state, cons
     case 4: return counter->check_out(pair, L, T, R, call->content, call->entry);
     case 5: return counter->check_in(pair, L, T, R, call->entry, call->f[0]);
     case 6: return counter->move_out(pair, L, T, R, call->entry, call->hash, call->f[0], call->f[1], call->f[2], call->f[3]);
-    case 7: return counter->move_in(pair, L, T, R, call->content, call->entry, call->hash);
+    case 7: return counter->move_in(pair, L, T, R, call->content, call->entry, call->hash, &state->entries_read);
     case 8: return counter->delete_entry(pair, L, T, R, call->entry, call->f[0], call->f[1], call->f[2], call->f[3]);
     case 9: return counter->tally(pair, T, R, call->content, &state->copies);
     default: return counter->sheet(pair, L, T, R, state->text, call->text_len, &state->used);
@@ -232,7 +232,7 @@ static uint64_t perform(const struct counter *counter, struct state *state, cons
 /* Values that show what a call does not write. */
 static void forget(struct state *state)
 {
-    state->copies = state->used = 77;
+    state->copies = state->entries_read = state->used = 77;
     memset(state->text, 0xa5, sizeof state->text);
 }
 

@@ -34,7 +34,7 @@ uint64_t plain_move_out(bool pair, uint8_t *ledger, size_t ledger_len, uint8_t *
                         uint64_t f4);
 
 uint64_t plain_move_in(bool pair, uint8_t *ledger, size_t ledger_len, uint8_t *titles, size_t titles_len, uint8_t *rules,
-                       size_t rules_len, uint64_t content, uint64_t entry, uint64_t hash);
+                       size_t rules_len, uint64_t content, uint64_t entry, uint64_t hash, uint64_t *entries_read);
 
 uint64_t plain_delete(bool pair, uint8_t *ledger, size_t ledger_len, uint8_t *titles, size_t titles_len, uint8_t *rules,
                       size_t rules_len, uint64_t entry, uint64_t f1, uint64_t f2, uint64_t f3, uint64_t f4);

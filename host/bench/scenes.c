@@ -164,13 +164,13 @@ static uint64_t move_ins(const struct counter *counter, struct shop *shop, const
 {
     uint8_t *row = shop->ledger + 24 * TITLE, *title = shop->titles + 16 * LAST, *rule = shop->rules + 32 * LAST;
     uint8_t old_row[24], old_title[16], old_rule[32];
-    uint64_t sum = 0;
+    uint64_t sum = 0, entries_read;
 
     memcpy(old_row, row, sizeof old_row);
     memcpy(old_title, title, sizeof old_title);
     memcpy(old_rule, rule, sizeof old_rule);
     for (unsigned i = 0; i < scene->calls; i++) {
-        sum += counter->move_in(COUNTER_AUDIO, LEDGER(shop), TITLES(shop), RULES(shop), TITLE, LAST, HASH);
+        sum += counter->move_in(COUNTER_AUDIO, LEDGER(shop), TITLES(shop), RULES(shop), TITLE, LAST, HASH, &entries_read);
         memcpy(row, old_row, sizeof old_row);
         memcpy(title, old_title, sizeof old_title);
         memcpy(rule, old_rule, sizeof old_rule);
@@ -180,10 +180,10 @@ static uint64_t move_ins(const struct counter *counter, struct shop *shop, const
 
 static uint64_t refused_move_ins(const struct counter *counter, struct shop *shop, const struct scene *scene)
 {
-    uint64_t sum = 0;
+    uint64_t sum = 0, entries_read;
 
     for (unsigned i = 0; i < scene->calls; i++)
-        sum += counter->move_in(COUNTER_AUDIO, LEDGER(shop), TITLES(shop), RULES(shop), TITLE, LAST, HASH);
+        sum += counter->move_in(COUNTER_AUDIO, LEDGER(shop), TITLES(shop), RULES(shop), TITLE, LAST, HASH, &entries_read);
     return sum;
 }
 

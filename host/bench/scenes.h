@@ -19,7 +19,8 @@ struct counter {
     uint64_t (*check_in)(bool, uint8_t *, size_t, uint8_t *, size_t, const uint8_t *, size_t, uint64_t, uint64_t);
     uint64_t (*move_out)(bool, uint8_t *, size_t, uint8_t *, size_t, uint8_t *, size_t, uint64_t, uint64_t, uint64_t,
                          uint64_t, uint64_t, uint64_t);
-    uint64_t (*move_in)(bool, uint8_t *, size_t, uint8_t *, size_t, uint8_t *, size_t, uint64_t, uint64_t, uint64_t);
+    uint64_t (*move_in)(bool, uint8_t *, size_t, uint8_t *, size_t, uint8_t *, size_t, uint64_t, uint64_t, uint64_t,
+                        uint64_t *);
     uint64_t (*delete_entry)(bool, uint8_t *, size_t, uint8_t *, size_t, uint8_t *, size_t, uint64_t, uint64_t, uint64_t,
                              uint64_t, uint64_t);
     uint64_t (*tally)(bool, const uint8_t *, size_t, const uint8_t *, size_t, uint64_t, uint64_t *);

@@ -1,4 +1,4 @@
-//! The eleven operations, by document 01 and requests W1 to W4 of document 02, on tables of either pair: each tests its
+//! The eleven operations, by document 01 and requests W1 to W5 of document 02, on tables of either pair: each tests its
 //! conditions in their order, and changes the tables, or what it writes beside them, only when none of them refuses.
 
 use crate::sheet::{self, MOST_TEXT};
@@ -122,9 +122,11 @@ pub fn leaves_sti_key_alone(call: &Call, tables: &Tables) -> bool {
     }
 }
 
-/// What is written beside the tables: by a tally its number, by a sheet its text and how many bytes of it are used.
+/// What is written beside the tables: by a move in how many entries it read, by a tally its number, by a sheet its text and how
+/// many bytes of it are used.
 #[derive(Clone, Debug, PartialEq)]
 pub struct Results {
+    pub entries_read: u64,
     pub tallied: u64,
     pub text: Vec<u8>,
     pub used: usize,
@@ -135,7 +137,12 @@ impl Results {
     /// Only a sheet has a text, which goes on behind every room.
     pub fn before(call: &Call, number: u64) -> Self {
         let length = if matches!(call, Call::Sheet { .. }) { MOST_TEXT + 64 } else { 0 };
-        Results { tallied: u64::MAX - number, text: vec![number as u8; length], used: usize::MAX - number as usize }
+        Results {
+            entries_read: u64::MAX - number,
+            tallied: u64::MAX - number,
+            text: vec![number as u8; length],
+            used: usize::MAX - number as usize,
+        }
     }
 
     /// The bytes that are lent to a sheet.
@@ -151,7 +158,8 @@ fn refuse_unless(condition: bool, number: u64) -> Tested<()> {
     if condition { Ok(()) } else { Err(number) }
 }
 
-/// Carries the call of this pair out on the tables and answers its number. A tally or sheet that is done also writes its results.
+/// Carries the call of this pair out on the tables and answers its number. A tally or sheet that is done also writes its results,
+/// and a move in whether it is done or not.
 pub fn perform(pair: Pair, call: &Call, tables: &mut Tables, results: &mut Results) -> u64 {
     let tested = match *call {
         Call::Register { content, facts } => register(tables, content, facts),
@@ -159,7 +167,7 @@ pub fn perform(pair: Pair, call: &Call, tables: &mut Tables, results: &mut Resul
         Call::CheckOut { content, entry } => check_out(pair, tables, content, entry),
         Call::CheckIn { entry, f1 } => check_in(pair, tables, entry, f1),
         Call::MoveOut { entry, hash, fillers } => move_out(pair, tables, entry, hash, fillers),
-        Call::MoveIn { content, entry, hash } => move_in(pair, tables, content, entry, hash),
+        Call::MoveIn { content, entry, hash } => move_in(pair, tables, content, entry, hash, &mut results.entries_read),
         Call::Delete { entry, fillers } => delete(pair, tables, entry, fillers),
         Call::Tally { content } => tally(pair, tables, content).map(|copies| results.tallied = copies),
         Call::Sheet { room } => sheet(pair, tables, results.room(room)).map(|used| results.used = used),
@@ -321,14 +329,20 @@ fn move_out(pair: Pair, tables: &mut Tables, entry: u64, hash: u64, fillers: [u6
     Ok(())
 }
 
-fn move_in(pair: Pair, tables: &mut Tables, content: u64, entry: u64, hash: u64) -> Tested<()> {
+/// "If an earlier check refuses, the report is 0."
+fn move_in(
+    pair: Pair, tables: &mut Tables, content: u64, entry: u64, hash: u64, entries_read: &mut u64,
+) -> Tested<()> {
+    *entries_read = 0;
     test_content(content)?;
     test_entry(entry)?;
     test_tables(pair, tables)?;
     entry_of_kind(tables, entry, &[EntryKind::Free])?;
     let row = row_in_state(tables, content, RowState::Here)?;
     test_move(&row.facts)?;
-    refuse_unless(tables.copies(content) == 0, 14)?;
+    let copy = tables.first_copy(content);
+    *entries_read = copy.unwrap_or(LAST_ENTRY);
+    refuse_unless(copy.is_none(), 14)?;
     put_full(tables, content, entry, &moved(row.facts), hash);
     tables.put_row(content, &Row::away());
     Ok(())

@@ -4,7 +4,7 @@
 use crate::calls::{self, Call, Operation, Results, FORMATTING, OPERATIONS};
 use crate::history::Titles;
 use crate::requests::{self, Request};
-use crate::tables::{Pair, Tables, PAIRS};
+use crate::tables::{Pair, Tables, LAST_ENTRY, PAIRS};
 use crate::till;
 
 /// Answers are 0 to 16.
@@ -39,11 +39,24 @@ struct OfPair {
     other_pair: [[u64; ANSWERS]; OPERATIONS.len()],
     /// And those whose fillers would leave the STI key of a full entry, and no other key.
     sti_key_left: [[u64; ANSWERS]; OPERATIONS.len()],
+    /// Move ins that found a copy, by the entries that they read.
+    read_to_copy: Reads,
+}
+
+/// How often a move in read so many entries, up to the first copy.
+#[derive(Clone, Copy)]
+struct Reads([u64; 1 + LAST_ENTRY as usize]);
+
+impl Default for Reads {
+    fn default() -> Self {
+        Reads([0; 1 + LAST_ENTRY as usize])
+    }
 }
 
 impl OfPair {
     /// Each operation that tests heads met a title table, and a rule table, of the other pair; a move out and a delete that would
-    /// leave the STI key were answered 16 or, for pictures, done; and demand 3 was tested, on sheets too.
+    /// leave the STI key were answered 16 or, for pictures, done; a move in found the first copy in each entry; and demand 3 was
+    /// tested, on sheets too.
     fn complete(&self, pair: Pair) -> Result<(), String> {
         for (operation, name, allowed) in &OPERATIONS[..FORMATTING] {
             let met = |counts: &[[u64; ANSWERS]], answer: usize| counts[*operation as usize][answer] > 0;
@@ -56,6 +69,9 @@ impl OfPair {
             if wipes_full && !met(&self.sti_key_left, if pair == Pair::Audio { 16 } else { 0 }) {
                 return Err(format!("{pair:?} {name}: no filler that leaves the STI key"));
             }
+        }
+        if let Some(entry) = (1..=LAST_ENTRY).find(|entry| self.read_to_copy.0[*entry as usize] == 0) {
+            return Err(format!("{pair:?} move in: the first copy was never in entry {entry}"));
         }
         if self.titles.with_holder == 0 || self.titles.deleted == 0 {
             return Err(format!("{pair:?}: demand 3 was not tested"));
@@ -231,7 +247,7 @@ pub struct Sides {
 
 impl Sides {
     pub fn new(pair: Pair, tables: &Tables) -> Self {
-        let results = Results { tallied: 0, text: Vec::new(), used: 0 };
+        let results = Results { entries_read: 0, tallied: 0, text: Vec::new(), used: 0 };
         Sides {
             pair,
             library: tables.clone(),
@@ -285,12 +301,16 @@ impl Sides {
             || (answer == 9 && self.library.rule_head(other).is_some());
         came_up.other_pair[operation][answer] += u64::from(of_other);
         came_up.sti_key_left[operation][answer] += u64::from(leaves_sti_key);
+        if answer == 14 {
+            came_up.read_to_copy.0[self.library_results.entries_read as usize] += 1;
+        }
     }
 
     fn first_difference(&self) -> Option<String> {
         let (library, expected) = (&self.library, &self.expected);
         let (written, wanted) = (&self.library_results, &self.expected_results);
-        number_difference("tally", written.tallied, wanted.tallied)
+        number_difference("entries read", written.entries_read, wanted.entries_read)
+            .or_else(|| number_difference("tally", written.tallied, wanted.tallied))
             .or_else(|| number_difference("used", written.used as u64, wanted.used as u64))
             .or_else(|| difference("text", &written.text, &wanted.text))
             .or_else(|| difference("ledger", &library.ledger, &expected.ledger))

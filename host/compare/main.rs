@@ -1,4 +1,4 @@
-//! Compares the library with an implementation of its own of document 01 and of requests W1 to W4 of document 02, by fields
+//! Compares the library with an implementation of its own of document 01 and of requests W1 to W5 of document 02, by fields
 //! and structures, on many inputs, with tables of either pair.
 //!
 //! compare calls COUNT SEED: at least so many calls. compare seconds N SEED: round after round, each with a seed of its
@@ -31,6 +31,7 @@ fn all_values(run: &mut Run) -> Result<(), String> {
     request_bytes::at_limits(run)?;
     PAIRS.into_iter().try_for_each(|pair| parts::every_byte(run, pair))?;
     PAIRS.into_iter().try_for_each(|pair| parts::full_card(run, pair))?;
+    PAIRS.into_iter().try_for_each(|pair| parts::every_first_copy(run, pair))?;
     (0..10).try_for_each(|round| parts::arguments_at_limits(run, round))?;
     (0..6).try_for_each(|round| parts::formats(run, round))
 }

@@ -116,6 +116,33 @@ pub fn full_card(run: &mut Run, pair: Pair) -> Result<(), String> {
     check(run, &mut sides, &counts)
 }
 
+/// A move in with the first copy in each entry. Before it are entries that have been copies of the title, or are copies of another;
+/// behind it are copies of it.
+pub fn every_first_copy(run: &mut Run, pair: Pair) -> Result<(), String> {
+    (run.part, run.round) = ("first copies", pair as u64);
+    let mut random = Random::new(run.seed, run.part, run.round);
+    let facts = Facts { trigger: 0, rights: UNLIMITED, ..inputs::facts(&mut random) };
+    let copy = TitleHalf::written(&facts, CONTENT);
+    let mut wiped = copy;
+    wiped.wipe(random.number());
+    let before = [wiped, TitleHalf::written(&facts, CONTENT + 1)];
+    let mut tables = inputs::fresh_tables([pair; 2], ROWS, 1, 1);
+    tables.put_row(CONTENT, &Row::here(facts));
+    let mut sides = Sides::new(pair, &tables);
+    for first in 1..=LAST_ENTRY {
+        // any entry but the first copy's
+        let entry = 1 + (first - 1 + random.one_to(LAST_ENTRY - 1)) % LAST_ENTRY;
+        let mut lent = tables.clone();
+        for other in (1..=LAST_ENTRY).filter(|other| *other != entry) {
+            if other == first || random.chance(10) {
+                lent.put_title_half(other, &if other < first { random.pick(&before) } else { copy });
+            }
+        }
+        each_call(run, &mut sides, &lent, &[Call::MoveIn { content: CONTENT, entry, hash: random.number() }])?;
+    }
+    Ok(())
+}
+
 fn all(rows: u64) -> Named {
     Named { contents: (1..=rows).collect(), entries: (1..=999).collect() }
 }

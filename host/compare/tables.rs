@@ -547,24 +547,34 @@ impl Tables {
         half.write(&mut self.rules[start..start + RULE_HALF_SIZE]);
     }
 
-    /// The entries with a usable title half, in their order. Without one, as on most of a card, an entry is no copy and not full,
-    /// and need not be read.
-    fn entries_with_title(&self) -> impl Iterator<Item = Entry> + '_ {
+    /// The entries with a usable title half, by their numbers and in their order. Without one, as on most of a card, an entry is no
+    /// copy and not full, and need not be read.
+    fn entries_with_title(&self) -> impl Iterator<Item = (u64, Entry)> + '_ {
         let halves = self.titles.chunks_exact(TITLE_HALF_SIZE).zip(0..);
         let usable = halves.filter(|(half, _)| FlagAndContentId::read(&half[8..]).usable());
-        usable.filter_map(|(_, j)| self.entry(j))
+        usable.filter_map(|(_, j)| Some((j, self.entry(j)?)))
+    }
+
+    /// The numbers of the entries that are copies with this content ID, in their order.
+    fn copies_of(&self, content_id: u64) -> impl Iterator<Item = u64> + '_ {
+        let copies = self.entries_with_title().filter(|(_, entry)| entry.kind() == EntryKind::Copy);
+        copies.filter(move |(_, entry)| entry.content_id() == content_id).map(|(j, _)| j)
     }
 
     /// The number of copies with this content ID.
     pub fn copies(&self, content_id: u64) -> u64 {
-        let is_copy = |entry: &Entry| entry.kind() == EntryKind::Copy && entry.content_id() == content_id;
-        self.entries_with_title().filter(is_copy).count() as u64
+        self.copies_of(content_id).count() as u64
+    }
+
+    /// The first entry that is a copy with this content ID.
+    pub fn first_copy(&self, content_id: u64) -> Option<u64> {
+        self.copies_of(content_id).next()
     }
 
     /// What the card has of each content ID that it has anything of, by one pass over its entries.
     pub fn on_card(&self) -> HashMap<u64, OnCard> {
         let mut on_card: HashMap<u64, OnCard> = HashMap::new();
-        for entry in self.entries_with_title() {
+        for (_, entry) in self.entries_with_title() {
             match entry.kind() {
                 EntryKind::Copy => on_card.entry(entry.content_id()).or_default().copies.push(entry.title.cci),
                 EntryKind::Full => on_card.entry(entry.content_id()).or_default().full.push(entry.facts()),

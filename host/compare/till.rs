@@ -32,7 +32,7 @@ extern "C" {
     ) -> u64;
     fn counter_move_in(
         pair: bool, ledger: *mut u8, ledger_len: usize, titles: *mut u8, titles_len: usize, rules: *mut u8, rules_len: usize,
-        content: u64, entry: u64, hash: u64,
+        content: u64, entry: u64, hash: u64, entries_read: *mut u64,
     ) -> u64;
     fn counter_delete(
         pair: bool, ledger: *mut u8, ledger_len: usize, titles: *mut u8, titles_len: usize, rules: *mut u8, rules_len: usize,
@@ -53,7 +53,7 @@ extern "C" {
     ) -> u64;
 }
 
-/// Carries the call of this pair out on the tables. A tally or a sheet may write its results.
+/// Carries the call of this pair out on the tables. A move in, a tally or a sheet may write its results.
 pub fn perform(pair: Pair, call: &Call, tables: &mut Tables, results: &mut Results) -> u64 {
     let pair = pair == Pair::Picture;
     let (ledger, ledger_len) = (tables.ledger.as_mut_ptr(), tables.ledger.len());
@@ -78,9 +78,10 @@ pub fn perform(pair: Pair, call: &Call, tables: &mut Tables, results: &mut Resul
             Call::MoveOut { entry, hash, fillers: [f1, f2, f3, f4] } => counter_move_out(
                 pair, ledger, ledger_len, titles, titles_len, rules, rules_len, entry, hash, f1, f2, f3, f4,
             ),
-            Call::MoveIn { content, entry, hash } => {
-                counter_move_in(pair, ledger, ledger_len, titles, titles_len, rules, rules_len, content, entry, hash)
-            }
+            Call::MoveIn { content, entry, hash } => counter_move_in(
+                pair, ledger, ledger_len, titles, titles_len, rules, rules_len, content, entry, hash,
+                &mut results.entries_read,
+            ),
             Call::Delete { entry, fillers: [f1, f2, f3, f4] } => {
                 counter_delete(pair, ledger, ledger_len, titles, titles_len, rules, rules_len, entry, f1, f2, f3, f4)
             }

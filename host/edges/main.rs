@@ -4,6 +4,7 @@
 //
 // No code is shared with the library.
 
+mod move_in;
 mod numbers;
 mod sheet;
 mod shop;
@@ -101,6 +102,7 @@ fn layer_cases() {
     row_writers();
     remainder_cases();
     streams();
+    move_in::cases();
     no_cases();
 }
 

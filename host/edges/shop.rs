@@ -60,8 +60,9 @@ impl Shop {
     fn kind(&self, j: u64) -> u64 {
         kind(&self.titles[j as usize], &self.rules[j as usize])
     }
-    fn copies(&self, c: u64) -> usize {
-        (1..=999).filter(|j| self.kind(*j) == COPY && id(&self.titles[*j as usize]) == c).count()
+    // The first of the copies with ID c, by its entry's number.
+    pub fn first_copy(&self, c: u64) -> Option<u64> {
+        (1..=999).find(|j| self.kind(*j) == COPY && id(&self.titles[*j as usize]) == c)
     }
     fn set_row(&mut self, c: u64, state: u8, f: Facts) {
         self.rows[c as usize] = row_form(state, f);
@@ -83,7 +84,7 @@ impl Shop {
         self.rules[j as usize] = rule_form(f, hash, c);
     }
     // The number of a request: of the conditions that hold, the first. Its arguments are in their limits and the heads are right.
-    fn refusal(&self, call: u64, a: &[u64]) -> u64 {
+    pub fn refusal(&self, call: u64, a: &[u64]) -> u64 {
         let j = if call == 1 { 0 } else if matches!(call, 2 | 3 | 6) { a[1] } else { a[0] };
         let (title, rule) = (&self.titles[j as usize], &self.rules[j as usize]);
         let kind = self.kind(j);
@@ -107,7 +108,7 @@ impl Shop {
                 (10, kind != FULL), (11, !self.is(c, AWAY)), (12, may_not_move), (13, a[1] != hash(rule)),
                 (16, leaves(0, title) || leaves_sti()),
             ],
-            6 => vec![(10, kind != FREE), (11, !self.is(c, HERE)), (12, may_not_move), (14, self.copies(c) != 0)],
+            6 => vec![(10, kind != FREE), (11, !self.is(c, HERE)), (12, may_not_move), (14, self.first_copy(c).is_some())],
             _ => vec![
                 (10, kind != COPY && kind != FULL), (11, kind == FULL && !self.is(c, AWAY)),
                 (16, leaves(0, title) || kind == FULL && leaves_sti()),

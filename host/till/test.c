@@ -1,6 +1,7 @@
 /*
- * Tests libtill.a through music_counter.h, call by call, against document 01 and, for picture tables, the closing sheet and
- * the CCI of copies, requests W1 to W4 of document 02. All that is lent tables runs twice, with those of either pair.
+ * Tests libtill.a through music_counter.h, call by call, against document 01 and, for picture tables, the closing sheet, the
+ * CCI of copies and what a move in reports, requests W1 to W5 of document 02. All that is lent tables runs twice, with those
+ * of either pair.
  *
  * Before each call the test knows every byte of the buffers; after it, it knows every byte that the paper wants there, since
  * it sets them itself, field by field. All bytes are compared after every call, and so are the guard bytes
@@ -166,8 +167,8 @@ static struct {
     uint64_t h, f1, f2, f3, f4;
 } a;
 
-/* The second result of tally, and of the sheet. */
-static uint64_t copies, copies_wanted;
+/* What tally, move in and sheet tell beside their answers. */
+static uint64_t copies, copies_wanted, entries_read, entries_read_wanted;
 static size_t used, used_wanted;
 
 static void fresh_ledger(uint64_t rows)
@@ -289,14 +290,21 @@ struct on_card {
     unsigned copies, permits, rights;
 };
 
+static uint64_t id_at(size_t j) { return get(&titles, 16 * j + 14, 2) % 1024; }
+
+static enum kind kind_at(size_t j)
+{
+    return kind_of(get(&titles, 16 * j + 8, 1) / 128, id_at(j), get(&titles, 16 * j, 1) % 4,
+                   get(&rules, 32 * j + 8, 1) / 128, get(&rules, 32 * j + 14, 2) % 1024);
+}
+
 /* From the last entry on, so that the first full one of a title has the last word. */
 static void look_at_card(struct on_card on_card[1024])
 {
     memset(on_card, 0, 1024 * sizeof on_card[0]);
     for (size_t j = 999; j >= 1; j--) {
-        uint64_t id = get(&titles, 16 * j + 14, 2) % 1024;
-        enum kind kind = kind_of(get(&titles, 16 * j + 8, 1) / 128, id, get(&titles, 16 * j, 1) % 4,
-                                 get(&rules, 32 * j + 8, 1) / 128, get(&rules, 32 * j + 14, 2) % 1024);
+        uint64_t id = id_at(j);
+        enum kind kind = kind_at(j);
 
         if (kind == COPY)
             on_card[id].copies++;
@@ -354,7 +362,7 @@ static uint64_t call_record(void) { return counter_record(pair, LEDGER, CARD, a.
 static uint64_t call_check_out(void) { return counter_check_out(pair, LEDGER, CARD, a.c, a.j); }
 static uint64_t call_check_in(void) { return counter_check_in(pair, LEDGER, CARD, a.j, a.f1); }
 static uint64_t call_move_out(void) { return counter_move_out(pair, LEDGER, CARD, a.j, a.h, a.f1, a.f2, a.f3, a.f4); }
-static uint64_t call_move_in(void) { return counter_move_in(pair, LEDGER, CARD, a.c, a.j, a.h); }
+static uint64_t call_move_in(void) { return counter_move_in(pair, LEDGER, CARD, a.c, a.j, a.h, &entries_read); }
 static uint64_t call_delete(void) { return counter_delete(pair, LEDGER, CARD, a.j, a.f1, a.f2, a.f3, a.f4); }
 static uint64_t call_tally(void) { return counter_tally(pair, CARD, a.c, &copies); }
 static uint64_t call_sheet(void) { return counter_sheet(pair, LEDGER, CARD, TEXT, &used); }
@@ -455,6 +463,20 @@ static void after_sheet(void)
     memcpy(wanted(&text), front, used_wanted);
 }
 
+/*
+ * What a move in with this answer reports: "the number of the first copy's entry if there is one, else 999. If an earlier
+ * check refuses, the report is 0."
+ */
+static uint64_t report(uint64_t answer)
+{
+    if (answer != COUNTER_DONE && answer != COUNTER_COPY_OUT)
+        return 0;
+    for (size_t j = 1; j <= 999; j++)
+        if (kind_at(j) == COPY && id_at(j) == a.c)
+            return j;
+    return 999;
+}
+
 struct function {
     const char *name;
     void (*ready)(void);
@@ -528,7 +550,9 @@ static void check(int line, const struct function *f, uint64_t answer)
 {
     memset(wanted(&text), 0xee, text.length);
     settle();
-    copies = copies_wanted = used = used_wanted = 0xcccc;
+    copies = copies_wanted = used = used_wanted = entries_read = entries_read_wanted = 0xcccc;
+    if (f->call == call_move_in)
+        entries_read_wanted = report(answer);
     if (answer == COUNTER_DONE)
         f->after();
     same(line, f->name, "answered", f->call(), answer);
@@ -536,6 +560,7 @@ static void check(int line, const struct function *f, uint64_t answer)
     compare(line, f->name, &titles);
     compare(line, f->name, &rules);
     compare(line, f->name, &text);
+    same(line, f->name, "entries read", entries_read, entries_read_wanted);
     same(line, f->name, "copies", copies, copies_wanted);
     same(line, f->name, "used", used, used_wanted);
     given[pair][f - functions][answer]++;
@@ -1230,7 +1255,7 @@ static void rights(void)
 static void copies_beside(void)
 {
     const struct function *f = named("move in");
-    static const uint64_t entries[] = {1, 6, 8, 500, 998, 999};
+    static const uint64_t entries[] = {1, 2, 3, 4, 6, 8, 500, 998, 999};
 
     for (size_t k = 0; k < COUNT_OF(entries); k++) {
         begin(f, 64, 5, 7);
@@ -1258,6 +1283,39 @@ static void copies_beside(void)
     begin(f, 64, 5, 7);
     halves(0, 1, 5, 0, 0);
     CHECK(f, 8);
+}
+
+/* A move in to entry j that is refused where a copy of its title is first in that entry. */
+static void found_in(int line, uint64_t first)
+{
+    check(line, named("move in"), COUNTER_COPY_OUT);
+    same(line, "move in", "entries read", entries_read, first);
+}
+
+/* How far the search for a copy goes: to the first, whatever stands before and behind it. */
+static void entries_read_to_a_copy(void)
+{
+    for (uint64_t first = 1; first <= 999; first++) {
+        begin(named("move in"), 64, 5, first == 7 ? 8 : 7);
+        title_half(first, 5);
+        found_in(__LINE__, first);
+    }
+    begin(named("move in"), 64, 5, 7);
+    for (uint64_t first = 999; first >= 8; first -= 1 + first % 5) {
+        title_half(first, 5);
+        found_in(__LINE__, first);
+    }
+    /* the copies leave from the first on, and then their IDs stand before it, with copies of another title between them */
+    for (uint64_t j = 8; j <= 999; j++) {
+        if (kind_at(j) != COPY)
+            title_half(j, 6);
+        else if (id_at(j) == 5) {
+            found_in(__LINE__, j);
+            halves(j, 0, 5, 0, 0);
+        }
+    }
+    CHECK(named("move in"), 0);
+    same(__LINE__, "move in", "entries read", entries_read, 999);
 }
 
 static void want_copies(int line, uint64_t count)
@@ -1877,6 +1935,7 @@ static unsigned long all_with(bool next)
     copies_of_any_cci(named("delete of a copy"));
     rights();
     copies_beside();
+    entries_read_to_a_copy();
     tallies();
     tallies_of_kinds();
     a_history();

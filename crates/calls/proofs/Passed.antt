@@ -102,7 +102,7 @@ is_free_lem Copy e = absurd (true≢false e)
 is_free_lem Full e = absurd (true≢false e)
 is_free_lem Torn e = absurd (true≢false e)
 
-is_copy_lem : (k : EntryKind) → not (is_copy k) ≡ false → k ≡ Copy
+pub is_copy_lem : (k : EntryKind) → not (is_copy k) ≡ false → k ≡ Copy
 is_copy_lem Free e = absurd (true≢false e)
 is_copy_lem Copy e = refl
 is_copy_lem Full e = absurd (true≢false e)

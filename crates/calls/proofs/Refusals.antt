@@ -210,11 +210,11 @@ none_is_0 pair (MoveIn c j h) b = refl
 none_is_0 pair (Delete j f) b = refl
 
 -- the first number of a list of conditions is one of theirs
-abbrev at_most : ℕ → List ℕ → Bool
+abbrev pub at_most : ℕ → List ℕ → Bool
 at_most m [] = true
 at_most m (n ∷ ns) = leb n m && at_most m ns
 
-first_most : (m : ℕ) (cs : List Condition) → at_most m (numbers_of cs) ≡ true → first cs ≤ m
+pub first_most : (m : ℕ) (cs : List Condition) → at_most m (numbers_of cs) ≡ true → first cs ≤ m
 unfolding first
 first_most m [] e = omega arith
 first_most m ((n when true) ∷ cs) e = leb-true n m (split (leb n m) (at_most m (numbers_of cs)) e).0

@@ -152,6 +152,18 @@ full_with c t r = is_full (kind_of t r) && eqb (id_of t) c
 unfoldable pub copies : ℕ → List ℕ → List ℕ → ℕ
 copies c titles rules = total 999 (λ j. one (copy_of c (title_at titles j) (rule_at rules j)))
 
+-- "the first copy" of c on the card: the number of its entry; 0 where there is none
+unfoldable pub first_copy : ℕ → List ℕ → List ℕ → ℕ
+first_copy c titles rules = first_of 999 (λ j. copy_of c (title_at titles j) (rule_at rules j))
+
+-- how many of n entries a search reads that stops at the first of some kind: the number of that entry "if there is one", else n
+abbrev pub read_up_to : ℕ → ℕ → ℕ
+read_up_to n first = cond (eqb first 0) n first
+
+-- "how many entries that check read: the number of the first copy's entry if there is one, else 999"
+unfoldable pub entries_searched : ℕ → List ℕ → List ℕ → ℕ
+entries_searched c titles rules = read_up_to 999 (first_copy c titles rules)
+
 -- the buffers with another row c, another title half or another rule half of entry j
 abbrev pub with_row : ℕ → List ℕ → Buffers → Buffers
 with_row c row b = record { ledger = put b.ledger (24 * c) row; titles = b.titles; rules = b.rules }

@@ -13,3 +13,4 @@ pub mod Needs
 pub mod Untouched
 pub mod Work
 pub mod Pairs
+pub mod Report

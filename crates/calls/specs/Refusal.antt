@@ -1,5 +1,5 @@
 -- Refusal conditions with their numbers, and the answer that they give.
-use Rattle.std.specs.Prelude.{ℕ, ◌≡◌, ◌≢◌, ◌⊎◌, List, [], ◌∷◌, Bool, true, false, not, cond}
+use Rattle.std.specs.Prelude.{ℕ, ◌≡◌, ◌≢◌, ◌⊎◌, List, [], ◌∷◌, Bool, true, false, not, cond, eqb}
 
 -- a condition, and the number that a call that meets it is answered
 infix 70 ◌when◌
@@ -20,6 +20,11 @@ first ((n when b) ∷ rest) = cond b n (first rest)
 abbrev pub numbers_of : List Condition → List ℕ
 numbers_of [] = []
 numbers_of ((n when b) ∷ rest) = n ∷ numbers_of rest
+
+-- the conditions that are tested before that of number n
+abbrev pub tested_before : ℕ → List Condition → List Condition
+tested_before n [] = []
+tested_before n ((m when b) ∷ rest) = cond (eqb m n) [] ((m when b) ∷ tested_before n rest)
 
 -- condition n holds, and none before it
 abbrev pub FirstToHold : ℕ → List Condition → Type 0

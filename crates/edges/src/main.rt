@@ -1,5 +1,5 @@
-// Runs the cases of standard input, one a line, on functions of the layers below that no C function hands on as they are,
-// and prints each line with ` ->` and what the function answers. A line that is no case is answered `?`.
+// Runs the cases of standard input, one a line, on functions of the layers below that no C function hands on as they are, and
+// on a move in, and prints each line with ` ->` and what the function answers. A line that is no case is answered `?`.
 //
 // A case is spelled in the digits 0 to 9 and A to F, two a byte; all else in its line is for the reader, as the names of what
 // is answered. Its first byte says what is called, and the high digit of that byte how many numbers follow, of 8 bytes each
@@ -26,9 +26,13 @@
 //   21  a table, of which the part is the front, and zeros: application number, length; every head's tests and fields, those
 //       of card tables for audio and then for pictures
 //   22  an entry: lengths of its title half, for which 16 bytes are there, and of its rule half behind them
-//   28  write a number in groups at a place: value, place; the place behind it
+//   23  a title table and a rule table, the front of each: content ID, length of the first; whether there is a copy of that title,
+//       and how many entries a search for it reads
 //   31  a ledger, a title table and a rule table, the front of each: row, lengths of the first two; the five numbers of that
 //       row's line, and the totals, with the length of the sheet
+//   32  requests, served as 05, and then a move in: content ID, entry number, which tables it is lent but for their last byte (1 the
+//       ledger, 2 the titles, 4 the rules, added up); its answer, and how many entries its check for copies read
+//   33  the same, on a card of pictures
 //   38  write a title half: CCI, key, content ID
 //   39  write what both halves have in common: byte 0, key, content ID
 //   3A  write a number in decimal digits at a place of a text: value, the byte that ends it, place; the place behind it
@@ -51,7 +55,7 @@ use crate::writers::Call;
 use formats::table;
 
 fn main() {
-    let mut text = [0u8; 262144];
+    let mut text = [0u8; 393216];
     let n = io::read_full(0, &mut text);
     cases(&text[..n]);
 }

@@ -1,20 +1,24 @@
 // What a case shows.
-use crate::writers::Call;
+ghost use Rattle.calls.specs.Buffers.{buffers_of, fresh};
+ghost use Rattle.music_counter.specs.Serve.{Serves};
+
+use crate::writers::{Call, Numbers};
 use crate::{print, writers};
 use closing_sheet::sheet;
 use formats::entry::{Entry, EntryKind};
-use formats::facts::{ContentId, Facts};
+use formats::facts::{ContentId, EntryNumber, Facts};
 use formats::head::Pair;
 use formats::refusal::Refusal;
 use formats::row::RowState;
 use formats::{field, half, head, row, rule, table, title};
-use music_counter::serve;
-use music_counter::serve::Note;
+use music_counter::serve::{Note, Served};
+use music_counter::{move_in, serve};
 use requests::read::Read;
 use requests::request::Request;
 use requests::{number, request};
-use tables::format;
+use tables::card::Card;
 use tables::shop::Shop;
+use tables::{copies, format};
 
 // What the part has that a case reads, or holds after a case that writes.
 pub fn show(call: Call, case: &[u8], part: &[u8]) {
@@ -36,7 +40,10 @@ pub fn show(call: Call, case: &[u8], part: &[u8]) {
             title: table::part(part, 0, v[0] as usize),
             rule: table::part(part, 16, v[1] as usize),
         }),
+        0x23 => search(v[0], v[1] as usize, part),
         0x31 => closing(v[0], v[1] as usize, v[2] as usize, part),
+        0x32 => moved_in(Pair::Audio, v, part),
+        0x33 => moved_in(Pair::Picture, v, part),
         code => written(code, part),
     }
 }
@@ -150,18 +157,68 @@ fn closing(c: u64, ledger_len: usize, titles_len: usize, part: &[u8]) {
     print::number(totals.len as u64);
 }
 
+// Whether there is a copy of a title in a title table and the rule table behind it, and what the search for it reads.
+fn search(c: u64, titles_len: usize, part: &[u8]) {
+    let titles = table::part(part, 0, titles_len);
+    let rules = table::part(part, titles_len, part.len());
+    let search = copies::find(Card { titles, rules }, ContentId(c));
+    print::number(u64::from(search.found));
+    print::number(search.read);
+}
+
+// Serves requests on a ledger of 4 rows and a card that are formatted for them.
+fn served(
+    pair: Pair,
+    ledger: &mut [u8; 120],
+    titles: &mut [u8; 16000],
+    rules: &mut [u8; 32000],
+    requests: &[u8],
+    notes: &mut [Note],
+) -> Served
+    ensures { Serves pair requests.now (fresh pair 4 0 0) result
+        (buffers_of ledger.new titles.new rules.new) notes.old notes.new }
+{
+    let _ = format::format_ledger(ledger, 4, 0);
+    let _ = format::format_card(pair, titles, rules, 0);
+    serve::all(pair, ledger, titles, rules, requests, notes)
+}
+
+// What a move in answers and reports after these requests, lent each table whole or but for its last byte.
+fn moved_in(pair: Pair, v: Numbers, requests: &[u8]) {
+    let mut ledger = [0u8; 120];
+    let mut titles = [0u8; 16000];
+    let mut rules = [0u8; 32000];
+    let _ = served(
+        pair,
+        &mut ledger,
+        &mut titles,
+        &mut rules,
+        requests,
+        &mut [],
+    );
+    let reported = move_in::move_in(
+        pair,
+        &mut ledger[..120 - (v[2] % 2) as usize],
+        &mut titles[..16000 - (v[2] / 2 % 2) as usize],
+        &mut rules[..32000 - (v[2] / 4 % 2) as usize],
+        ContentId(v[0]),
+        EntryNumber(v[1]),
+        9,
+    );
+    print::answer(reported.answer);
+    print::number(reported.entries_read);
+}
+
 // What serving answers, with four places for notes, their kinds and then their answers, and rows and entries 1 to 4 after it.
 fn stream(pair: Pair, requests: &[u8]) {
     let mut ledger = [0u8; 120];
     let mut titles = [0u8; 16000];
     let mut rules = [0u8; 32000];
-    let _ = format::format_ledger(&mut ledger, 4, 0);
-    let _ = format::format_card(pair, &mut titles, &mut rules, 0);
     let mut notes = [Note {
         kind: 99,
         answer: 99,
     }; 4];
-    let served = serve::all(
+    let served = served(
         pair,
         &mut ledger,
         &mut titles,

@@ -86,10 +86,14 @@ module _ (pair : Pair) (k : Request) (b : Buffers) {w : ℕ} (e : w ≡ refusal 
   unfolding perform
   done {after} zero same = simp (sym e ∙ zero, same)
 
--- the same, where the refusals read the buffers that were lent as a shop, and a `?` hands on the refusal v
+-- the same, where the refusals read the buffers that were lent as a shop
 module _ (pair : Pair) (k : Request) {read b : Buffers} (same : read ≡ b) where
+  pub left_alone : {w : ℕ} → w ≡ refusal pair k read → w ≢ 0 → Answers pair k b w b
+  left_alone e = refused pair k b (e ∙ ap (refusal pair k) same)
+
+  -- a `?` hands on the refusal v
   pub handed : (r : Result (Unit {0}) Refusal) (v : Refusal) → IsErrAnd r (λ y. y ≡ v) → number_of v ≡ refusal pair k read → Answers pair k b (answer_number r) b
-  handed r v h e = rw (handed_on r v h) (refused pair k b (e ∙ ap (refusal pair k) same) (some_number v))
+  handed r v h e = rw (handed_on r v h) (left_alone e (some_number v))
 
   module _ (e : 0 ≡ refusal pair k read) where
     pub accepted : Inside k b

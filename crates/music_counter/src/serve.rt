@@ -49,7 +49,7 @@ pub fn perform(
             content,
             entry,
             hash,
-        } => { move_in::move_in(pair, ledger, titles, rules, content, entry, hash) }
+        } => { move_in::move_in(pair, ledger, titles, rules, content, entry, hash).answer }
         Request::Delete { entry, fillers } => {
             delete::delete(pair, ledger, titles, rules, entry, fillers)
         }

@@ -3,7 +3,7 @@
 use Prim.Native.Nat.{ℕ}
 use mathlib.Core.Path.{◌≡◌, refl, sym, ap, ◌∙◌}
 use mathlib.Core.Logic.{◌≢◌}
-use mathlib.Core.List.{◌++◌, append_assoc}
+use mathlib.Core.List.{List, ◌++◌, append_assoc}
 use mathlib.Core.Bool.{true}
 use Rattle.formats.specs.declared.head.Pair.{Pair}
 use Rattle.std.specs.Prelude.{Result}
@@ -14,7 +14,7 @@ use Rattle.formats.proofs.refusal.Laws.{some_number, handed_on}
 use Rattle.requests.specs.declared.request.Request.{Request}
 use Rattle.requests.specs.declared.request.Request.TheVariants.{Register, Record, CheckOut, CheckIn, MoveOut, MoveIn, Delete}
 use Rattle.calls.specs.Buffers.{Buffers}
-use Rattle.calls.specs.Refusal.{first}
+use Rattle.calls.specs.Refusal.{Condition, first}
 use Rattle.calls.specs.Conditions.{argument_conditions, head_conditions, state_conditions, conditions}
 use Rattle.calls.specs.Perform.{refusal}
 use Rattle.calls.proofs.Limits.{argument_numbers}
@@ -51,20 +51,25 @@ module _ (pair : Pair) (k : Request) (b : Buffers) {w : ℕ} (e : w ≡ first (a
     pub by_state : {n : ℕ} → v ≡ 0 → n ≡ first (state_conditions pair k b) → n ≡ refusal pair k b
     by_state none q = past_arguments (next_stage (head_conditions pair k b) (state_conditions pair k b) (head_numbers pair k b) (sym h ∙ none) q)
 
--- arguments and heads in one
-module _ (pair : Pair) (k : Request) (b : Buffers) {w : ℕ} (e : w ≡ first (argument_conditions k ++ head_conditions pair k b)) where
-  apart : first ((argument_conditions k ++ head_conditions pair k b) ++ state_conditions pair k b) ≡ refusal pair k b
-  unfolding refusal conditions
-  apart = ap first (append_assoc (argument_conditions k) (head_conditions pair k b) (state_conditions pair k b))
+-- arguments and heads in one, and what is tested after them
+module _ (pair : Pair) (k : Request) (b : Buffers) (ds : List Condition) {w : ℕ} (e : w ≡ first (argument_conditions k ++ head_conditions pair k b)) where
+  apart : first ((argument_conditions k ++ head_conditions pair k b) ++ ds) ≡ first (argument_conditions k ++ (head_conditions pair k b ++ ds))
+  apart = ap first (append_assoc (argument_conditions k) (head_conditions pair k b) ds)
 
-  pub refused_before : w ≢ 0 → w ≡ refusal pair k b
-  refused_before some = first_stage (argument_conditions k ++ head_conditions pair k b) (state_conditions pair k b) e some ∙ apart
+  pub refused_before : w ≢ 0 → w ≡ first (argument_conditions k ++ (head_conditions pair k b ++ ds))
+  refused_before some = first_stage (argument_conditions k ++ head_conditions pair k b) ds e some ∙ apart
 
-  pub past_before : {n : ℕ} → w ≡ 0 → n ≡ first (state_conditions pair k b) → n ≡ refusal pair k b
-  past_before zero q =
-      next_stage (argument_conditions k ++ head_conditions pair k b) (state_conditions pair k b)
+  pub next_after : {n : ℕ} → w ≡ 0 → n ≡ first ds → n ≡ first (argument_conditions k ++ (head_conditions pair k b ++ ds))
+  next_after zero q =
+      next_stage (argument_conditions k ++ head_conditions pair k b) ds
       (both_refuse (argument_conditions k) (head_conditions pair k b) (argument_numbers k) (head_numbers pair k b)) (sym e ∙ zero) q
       ∙ apart
+
+-- the state after them
+module _ (pair : Pair) (k : Request) (b : Buffers) {w : ℕ} (e : w ≡ first (argument_conditions k ++ head_conditions pair k b)) where
+  pub past_before : {n : ℕ} → w ≡ 0 → n ≡ first (state_conditions pair k b) → n ≡ refusal pair k b
+  unfolding refusal conditions
+  past_before zero q = next_after pair k b (state_conditions pair k b) e zero q
 
 -- AT THE EXIT OF A `?`, which hands on the refusal v of a stage
 module _ (pair : Pair) (k : Request) (b : Buffers) (r : Result (Unit {0}) Refusal) (v : Refusal) (h : IsErrAnd r (λ y. y ≡ v)) where
@@ -75,4 +80,10 @@ module _ (pair : Pair) (k : Request) (b : Buffers) (r : Result (Unit {0}) Refusa
   exit_heads e q = handed_on r v h ∙ by_heads pair k b e refl q (some_number v)
 
   pub exit_before : number_of v ≡ first (argument_conditions k ++ head_conditions pair k b) → answer_number r ≡ refusal pair k b
-  exit_before e = handed_on r v h ∙ refused_before pair k b e (some_number v)
+  unfolding refusal conditions
+  exit_before e = handed_on r v h ∙ refused_before pair k b (state_conditions pair k b) e (some_number v)
+
+  -- the exit of a move in before it searches the card
+  pub exit_early : (ds : List Condition) → number_of v ≡ first (argument_conditions k ++ head_conditions pair k b)
+      → answer_number r ≡ first (argument_conditions k ++ (head_conditions pair k b ++ ds))
+  exit_early ds e = handed_on r v h ∙ refused_before pair k b ds e (some_number v)

@@ -1,29 +1,22 @@
 -- Counting the entries of which a test holds, from the first on, and when an entry is a copy of a title.
 -- Assumes nothing.
-use Prim.Native.Nat.{ℕ, zero, suc, ◌+◌, ◌-◌, ◌≤◌, ◌<◌}
+use Prim.Native.Nat.{ℕ, suc, ◌+◌, ◌-◌, ◌≤◌, ◌<◌}
 use mathlib.Core.Path.{◌≡◌, refl, sym, ap, ◌∙◌}
 use mathlib.Core.List.{List}
 use mathlib.Core.Bool.{Bool, true, false, not, ◌&&◌, true≢false}
 use native.Mathlib.Omega.{arith}
-use native.Mathlib.Nat.{zero-add, suc-add}
 use lib.Dec.{eqb}
-use borrow.Author.Tests.{ne_eqb, eq-eqb, eqb-true, le-leb}
+use borrow.Author.Tests.{eq-eqb, eqb-true, le-leb}
 use Rattle.formats.specs.Half.{id_of, usable_of, flagged_with}
 use Rattle.formats.specs.Title.{cci_of}
 use Rattle.formats.specs.Entry.{kind_of}
-use Rattle.formats.specs.declared.entry.EntryKind.{EntryKind}
-use Rattle.formats.specs.declared.entry.EntryKind.TheVariants.{Free, Copy, Full, Torn}
 use Rattle.formats.proofs.Tests.{split, both, refuted}
 use Rattle.formats.specs.Facts.{numbered}
 use Rattle.formats.proofs.facts.Laws.{numbered_range}
 use Rattle.formats.proofs.entry.Laws.{IsCopy, of_copy, copy_beside}
 use Rattle.calls.specs.Buffers.{is_copy, copy_of, one, total}
-
--- a sum over more is no less
-total_grows : (m k : ℕ) (w : ℕ → ℕ) → total k w ≤ total (m + k) w
-unfolding total
-total_grows zero k w = rw (zero-add k) (omega arith)
-total_grows (suc m) k w = rw (suc-add m k) (omega (arith, total_grows m k w))
+use Rattle.calls.proofs.Passed.{is_copy_lem}
+use Rattle.calls.proofs.Refusals.{holds_not}
 
 -- n of the entries before j pass
 pub record Counted (p : ℕ → Bool) (j n : ℕ) : Type 0 where
@@ -64,17 +57,6 @@ module _ {p : ℕ → Bool} {j n : ℕ} (r : Counted p j n) where
       let x : j - 1 ≡ 999 = omega arith in
       r.is ∙ ap (λ (k : ℕ). total k (λ i. one (p i))) x
 
-  -- some were counted, so the whole count is not 0
-  pub found : (n ≡ 0 → ⊥) → true ≡ not (eqb (total 999 (λ i. one (p i))) 0)
-  found some =
-      let e : (1000 - j) + (j - 1) ≡ 999 = omega (arith, r.from, r.to) in
-      let grows : total (j - 1) (λ i. one (p i)) ≤ total 999 (λ i. one (p i)) = rw e at (total_grows (1000 - j) (j - 1) (λ i. one (p i))) in
-      sym (ap not (ne_eqb (total 999 (λ i. one (p i))) 0 (λ z. some (omega (arith, r.is)))))
-
--- none was counted up to the last, so the count is 0
-pub none_found : {p : ℕ → Bool} {j : ℕ} → Counted p j 0 → 1000 ≤ j → false ≡ not (eqb (total 999 (λ i. one (p i))) 0)
-none_found {p} r h = sym (ap not (eq-eqb (total 999 (λ i. one (p i))) 0 (sym (done r h))))
-
 -- the same count at the same place, written otherwise
 pub moved : {p : ℕ → Bool} {j n k m : ℕ} → Counted p j n → j ≡ k → n ≡ m → Counted p k m
 moved r e f = rw (sym e, sym f) r
@@ -98,18 +80,12 @@ three {p} {j} {n} r h =
 pub three_over : {p : ℕ → Bool} {j n : ℕ} → Counted p j n → j ≤ 997 → false ≡ p j → false ≡ p (j + 1) → false ≡ p (j + 2) → Counted p (j + 3) n
 three_over {p} {j} {n} r h e1 e2 e3 = moved (three r h) refl (omega (arith, ap one e1, ap one e2, ap one e3))
 
-is_copy_lem : (k : EntryKind) → is_copy k ≡ true → k ≡ Copy
-is_copy_lem Free e = absurd (true≢false (sym e))
-is_copy_lem Copy e = refl
-is_copy_lem Full e = absurd (true≢false (sym e))
-is_copy_lem Torn e = absurd (true≢false (sym e))
-
 -- what a copy of c has
 module _ (c : ℕ) (t r : List ℕ) where
   copy_says : copy_of c t r ≡ true → IsCopy t r × (id_of t ≡ c)
   copy_says e =
       let (k, i) = split (is_copy (kind_of t r)) (eqb (id_of t) c) e in
-      (of_copy t r (is_copy_lem (kind_of t r) k), eqb-true (id_of t) c i)
+      (of_copy t r (is_copy_lem (kind_of t r) (holds_not k)), eqb-true (id_of t) c i)
 
   -- flag and ID among it
   copy_flagged : copy_of c t r ≡ true → flagged_with c t ≡ true

@@ -1,15 +1,19 @@
 -- Three entries looked at together: by flag and ID, and by what they are.
 -- Assumes nothing.
-use Prim.Native.Nat.{ℕ, ◌+◌, ◌*◌, ◌≤◌, ◌<◌}
-use mathlib.Core.Path.{◌≡◌, refl, sym}
+use Prim.Native.Nat.{ℕ, ◌+◌, ◌*◌, ◌/◌, ◌≤◌, ◌<◌}
+use mathlib.Core.Path.{◌≡◌, refl, sym, ap, ◌∙◌}
+use mathlib.Core.Logic.{◌≢◌}
 use mathlib.Core.List.{List}
 use mathlib.Core.Bool.{Bool, true, false, not, ◌||◌, true≢false}
 use native.Mathlib.Omega.{arith}
 use lib.Dec.{eqb}
+use borrow.Author.Tests.{eq-eqb, ne_eqb}
 use lib.ListN.{length}
 use Rattle.formats.specs.Half.{flagged_with}
-use Rattle.calls.specs.Buffers.{title_at, rule_at, one}
-use Rattle.tables.specs.Copies.{copy_at, may_hold, in_three}
+use Rattle.calls.specs.Buffers.{title_at, rule_at, one, first_of, copies, first_copy, entries_searched}
+use Rattle.tables.specs.Copies.{copy_at, may_hold, in_three, first_of_three}
+use Rattle.calls.proofs.First.{first_after, none_after}
+use Rattle.calls.proofs.Report.{no_copies, no_first_copy, searched_first, searched_all}
 use Rattle.tables.proofs.Counting.{Counted, three, three_over, moved, not_held}
 
 -- neither part of an alternative that fails holds
@@ -49,3 +53,77 @@ module _ (c : ℕ) (titles rules : List ℕ) {k n m : ℕ} (r : Counted (copy_at
   none_of_three held e =
       let (first, (second, third)) = none_held c titles rules (3 * k + 1) held in
       moved (three_over r (omega arith) first second third) (omega arith) (sym e)
+
+-- the first of three, tried in turn
+module _ (t : ℕ → Bool) where
+  pub first_1 : t 1 ≡ true → first_of 3 t ≡ 1
+  unfolding first_of
+  first_1 e = rw e refl
+
+  pub first_2 : t 1 ≡ false → t 2 ≡ true → first_of 3 t ≡ 2
+  unfolding first_of
+  first_2 e1 e2 = rw (e1, e2) refl
+
+  pub first_3 : t 1 ≡ false → t 2 ≡ false → t 3 ≡ true → first_of 3 t ≡ 3
+  unfolding first_of
+  first_3 e1 e2 e3 = rw (e1, e2, e3) refl
+
+  pub none_of_3 : t 1 ≡ false → t 2 ≡ false → t 3 ≡ false → first_of 3 t ≡ 0
+  unfolding first_of
+  none_of_3 e1 e2 e3 = rw (e1, e2, e3) refl
+
+-- a turn of a search by threes: no entry up to 3k is a copy
+module _ (c : ℕ) (titles rules : List ℕ) {k : ℕ} (z : first_of (3 * k) (copy_at c titles rules) ≡ 0) (within : k < 333) where
+  abbrev place : ℕ
+  place = first_of_three c titles rules (3 * k)
+
+  -- one of the next three is the first, which the search has read to
+  first_is_there : place ≢ 0 → first_copy c titles rules ≡ 3 * k + place
+  unfolding first_copy
+  first_is_there some = first_after (copy_at c titles rules) (3 * k) z 3 999 (omega arith) some
+
+  module _ {bytes : ℕ} (e : bytes ≡ 16 * place) where
+    a_place : bytes ≢ 0 → place ≢ 0
+    a_place some z = some (omega (arith, e, z))
+
+    pub found_in_three : bytes ≢ 0 → true ≡ not (eqb (copies c titles rules) 0)
+    found_in_three some =
+        let first = first_is_there (a_place some) in
+        sym (ap not (ne_eqb (copies c titles rules) 0 (λ none. a_place some (omega (arith, first, no_first_copy c titles rules none)))))
+
+    pub read_to_it : bytes ≢ 0 → (48 * k + bytes) / 16 ≡ entries_searched c titles rules
+    read_to_it some =
+        let first = first_is_there (a_place some) in
+        let read : (48 * k + bytes) / 16 ≡ first_copy c titles rules = omega (arith, e, first) in
+        read ∙ sym (searched_first c titles rules (λ z. a_place some (omega (arith, first, z))))
+
+  -- none of them is
+  not_there : place ≡ 0 → first_of (3 * (k + 1)) (copy_at c titles rules) ≡ 0
+  not_there z' =
+      let x : 3 * k + 3 ≡ 3 * (k + 1) = omega arith in
+      rw x at (none_after (copy_at c titles rules) (3 * k) z 3 z')
+
+  pub not_in_three : {bytes : ℕ} → bytes ≡ 16 * place → bytes ≡ 0 → first_of (3 * (k + 1)) (copy_at c titles rules) ≡ 0
+  not_in_three e none = not_there (omega (arith, e, none))
+
+  -- as where none may be one
+  pub none_may_be : false ≡ may_hold c titles (3 * k + 1) → first_of (3 * (k + 1)) (copy_at c titles rules) ≡ 0
+  none_may_be held =
+      let (first, (second, third)) = none_held c titles rules (3 * k + 1) held in
+      let second_place : 3 * k + 1 + 1 ≡ 3 * k + 2 = omega arith in
+      let third_place : 3 * k + 1 + 2 ≡ 3 * k + 3 = omega arith in
+      not_there (none_of_3 (λ i. copy_at c titles rules (3 * k + i)) (sym first) (rw second_place at (sym second)) (rw third_place at (sym third)))
+
+-- the search has come to the end: no entry is a copy
+module _ (c : ℕ) (titles rules : List ℕ) {k : ℕ} (z : first_of (3 * k) (copy_at c titles rules) ≡ 0) (end : k ≡ 333) where
+  none_first : first_copy c titles rules ≡ 0
+  unfolding first_copy
+  none_first =
+      let x : 3 * k ≡ 999 = omega arith in
+      rw x at z
+
+  pub none_on_card : false ≡ not (eqb (copies c titles rules) 0)
+  none_on_card = sym (ap not (eq-eqb (copies c titles rules) 0 (no_copies c titles rules none_first)))
+
+  pub all_read : 999 ≡ entries_searched c titles rules
+  all_read = sym (searched_all c titles rules none_first)

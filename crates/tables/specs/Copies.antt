@@ -1,7 +1,7 @@
 -- Copies of a title among three entries of a card that are looked at together.
 use Rattle.std.specs.Prelude.{ℕ, ◌+◌, List, Bool, not, ◌||◌, length, eqb}
 use Rattle.formats.specs.Half.{flagged_with}
-use Rattle.calls.specs.Buffers.{title_at, rule_at, copy_of, one}
+use Rattle.calls.specs.Buffers.{title_at, rule_at, copy_of, one, first_of}
 
 -- whether entry j is a copy of c
 abbrev pub copy_at : ℕ → List ℕ → List ℕ → ℕ → Bool
@@ -17,6 +17,6 @@ may_hold c titles j =
 unfoldable pub in_three : ℕ → List ℕ → List ℕ → ℕ → ℕ
 in_three c titles rules j = one (copy_at c titles rules j) + one (copy_at c titles rules (j + 1)) + one (copy_at c titles rules (j + 2))
 
--- whether any of the three is
-abbrev pub any_of_three : ℕ → List ℕ → List ℕ → ℕ → Bool
-any_of_three c titles rules j = not (eqb (in_three c titles rules j) 0)
+-- the first of the three behind entry n that is one: 1, 2 or 3, and 0 where none is
+abbrev pub first_of_three : ℕ → List ℕ → List ℕ → ℕ → ℕ
+first_of_three c titles rules n = first_of 3 (λ i. copy_at c titles rules (n + i))

@@ -1,8 +1,8 @@
 // The copies of a title on a card.
 ghost use Rattle.std.specs.Prelude.{◌≡◌, not, ◌+◌, ◌*◌, ◌≤◌, eqb, length};
 ghost use Rattle.formats.specs.Half.{flagged_with};
-ghost use Rattle.calls.specs.Buffers.{title_at, copy_of, copies};
-ghost use Rattle.tables.specs.Copies.{copy_at, may_hold, in_three, any_of_three};
+ghost use Rattle.calls.specs.Buffers.{title_at, copy_of, copies, entries_searched};
+ghost use Rattle.tables.specs.Copies.{copy_at, may_hold, in_three, first_of_three};
 
 use crate::card::Card;
 use formats::entry::Entry;
@@ -69,27 +69,50 @@ pub fn count(card: Card, content: ContentId) -> u64
     n
 }
 
-// Whether any of three entries from entry j on is a copy of a title. Apart from `in_three`, so that the compiler puts each into
-// its one caller: with `in_three` for both, put into both, a move in takes 565 ns where it takes 325.
-#[tactic(auto, unfolding(crate::specs::Copies::in_three))]
-fn any_of_three(card: Card, j: u64, content: ContentId) -> bool
-    requires { j ≤ 997 }
-    ensures { result ≡ any_of_three content.0 card.entry.titles.now card.entry.rules.now j }
+// How many bytes the title halves of the three entries behind entry n have up to the end of the first that is a copy's; 0 where none is.
+// It has no part of `in_three`, so that the compiler puts each into its one caller: with `in_three` for both, put into both, a move in
+// takes 565 ns where it takes 325.
+fn bytes_to_copy(card: Card, n: u64, content: ContentId) -> u64
+    requires { n ≤ 996 }
+    ensures { result ≡ 16 * first_of_three content.0 card.entry.titles.now card.entry.rules.now n }
 {
-    is_copy_at(card, EntryNumber(j), content)
-        || is_copy_at(card, EntryNumber(j + 1), content)
-        || is_copy_at(card, EntryNumber(j + 2), content)
+    if is_copy_at(card, EntryNumber(n + 1), content) {
+        16
+    } else if is_copy_at(card, EntryNumber(n + 2), content) {
+        32
+    } else if is_copy_at(card, EntryNumber(n + 3), content) {
+        48
+    } else {
+        0
+    }
 }
 
-// Whether any entry is a copy of a title. The search stops at the first.
-pub fn any(card: Card, content: ContentId) -> bool
-    ensures { result ≡ not (eqb (copies content.0 card.entry.titles.now card.entry.rules.now) 0) }
+// What a search for a copy of a title came to: whether there is one, and how many entries it read.
+#[derive(Clone, Copy)]
+pub struct Search {
+    pub found: bool,
+    pub read: u64,
+}
+
+// Searches a card, from entry 1 on, for a copy of a title. It stops at the first. What it read is found from the bytes that it read,
+// since by these the loop counts: with a count of entries beside them a move in takes 353 ns where it takes 326.
+pub fn find(card: Card, content: ContentId) -> Search
+    ensures found { result.found ≡ not (eqb (copies content.0 card.entry.titles.now card.entry.rules.now) 0) }
+    ensures read { result.read ≡ entries_searched content.0 card.entry.titles.now card.entry.rules.now }
 {
     for k in 0..333 {
-        let j = 3 * k + 1;
-        if may_hold(card.titles, j, content) && any_of_three(card, j, content) {
-            return true;
+        if may_hold(card.titles, 3 * k + 1, content) {
+            let bytes = bytes_to_copy(card, 3 * k, content);
+            if bytes != 0 {
+                return Search {
+                    found: true,
+                    read: (48 * k + bytes) / 16,
+                };
+            }
         }
     }
-    false
+    Search {
+        found: false,
+        read: 999,
+    }
 }

@@ -19,6 +19,7 @@ use Rattle.calls.proofs.Refusals.{refused_first}
 use Rattle.calls.proofs.InBounds.{demand_1_calls}
 use Rattle.calls.proofs.Requests.{kind_tested, writing_numbers_lem, writing_refuses, writing_answer, writing_left, demand_1_requests}
 use Rattle.calls.proofs.Done.{work_is_done, register_by_ledger, gone_stays}
+use Rattle.calls.proofs.Report.{move_in_reports}
 use Rattle.calls.proofs.Pairs.{of_other_pair, picture_by_f1}
 use Rattle.calls.proofs.Fresh.{rows_by_number, fresh_is_ready}
 use Rattle.calls.proofs.Examples.{ten_examples, one_generation}
@@ -87,6 +88,7 @@ demands =
             rows = rows_by_number;
             register_by_ledger = register_by_ledger;
             gone_stays = gone_stays;
+            move_in_reports = move_in_reports;
             of_other_pair = of_other_pair;
             picture_by_f1 = picture_by_f1;
             tables = demand_1_tables;

@@ -12,6 +12,7 @@ use Rattle.calls.specs.Refusal.{RefusedFirst}
 use Rattle.calls.specs.Perform.{Demand1Calls}
 use Rattle.calls.specs.Requests.{kind_condition, writing_conditions, values_numbers, Demand1Requests}
 use Rattle.calls.specs.Work.{WorkIsDone, RegisterByLedger, GoneStays}
+use Rattle.calls.specs.Report.{MoveInReports}
 use Rattle.calls.specs.Pairs.{OtherPair, PictureByF1}
 use Rattle.calls.specs.Fresh.{RowsByNumber, FreshIsReady}
 use Rattle.calls.specs.Examples.{TenExamples, OneGeneration}
@@ -47,6 +48,8 @@ pub record Demand1 : Type 0 where
   pub rows : RowsByNumber
   pub register_by_ledger : RegisterByLedger
   pub gone_stays : GoneStays
+  -- what a move in reports beside its answer
+  pub move_in_reports : MoveInReports
   -- tables of the other pair are refused, and a picture call looks at f1 only
   pub of_other_pair : OtherPair
   pub picture_by_f1 : PictureByF1

@@ -1,7 +1,7 @@
 // What a till written in C calls: formatting, the seven calls, the tally, the closing sheet, and reading and writing requests, over
 // its own buffers, plain numbers and a bool for the pair. Formatting and the calls hand on what they are given, as the types that the
-// calls take. Tally, sheet, reading and writing also put numbers into the places that they are lent, and writing tests the kind, which
-// in C is any number. What travels together below stands in parameters of its own here, and answers are numbers, since C has them so.
+// calls take. Move in, tally, sheet, reading and writing also put numbers into the places that they are lent, and writing tests the kind,
+// which in C is any number. What travels together below stands in parameters of its own here, and answers are numbers, since C has them so.
 // include/music_counter.h has the same thirteen in C.
 #![tactic(auto)]
 
@@ -10,6 +10,7 @@ ghost use Rattle.std.specs.Result.{result_unwrap_or};
 ghost use Rattle.formats.specs.Refusal.{answer_number};
 ghost use Rattle.requests.specs.declared.request.Request.TheVariants.{Register, Record, CheckOut, CheckIn, MoveOut, MoveIn, Delete};
 ghost use Rattle.calls.specs.Buffers.{buffers_of};
+ghost use Rattle.calls.specs.Report.{move_in_report};
 ghost use Rattle.tables.specs.Format.{ledger_formatting, formatted_ledger, card_formatting, formatted_titles, formatted_rules};
 ghost use Rattle.tables.specs.Tally.{tallied};
 ghost use Rattle.closing_sheet.specs.Sheet.{sheet_writing, sheet_written_to};
@@ -229,7 +230,8 @@ pub extern "C" fn counter_move_out(
     refusal::number(answer)
 }
 
-// Answers 0, or 4, 5, 7, 8, 9, 10, 11, 12 or 14 with nothing changed.
+// Answers 0, or 4, 5, 7, 8, 9, 10, 11, 12 or 14 with no buffer changed. `entries_read` is told how many entries the check for copies
+// read, whatever the answer.
 #[unsafe(no_mangle)]
 pub extern "C" fn counter_move_in(
     pair: bool,
@@ -239,12 +241,15 @@ pub extern "C" fn counter_move_in(
     content: u64,
     entry: u64,
     hash: u64,
+    entries_read: &mut u64,
 ) -> u64
-    ensures { Answers (pair_of pair) (MoveIn (title content) (place entry) hash)
+    ensures answers { Answers (pair_of pair) (MoveIn (title content) (place entry) hash)
         (buffers_of ledger.old titles.old rules.old) result
         (buffers_of ledger.new titles.new rules.new) }
+    ensures report_told { entries_read.new ≡ move_in_report (pair_of pair) (title content) (place entry) hash
+        (buffers_of ledger.old titles.old rules.old) }
 {
-    let answer = move_in::move_in(
+    let reported = move_in::move_in(
         pair_of(pair),
         ledger,
         titles,
@@ -253,7 +258,8 @@ pub extern "C" fn counter_move_in(
         EntryNumber(entry),
         hash,
     );
-    refusal::number(answer)
+    *entries_read = reported.entries_read;
+    refusal::number(reported.answer)
 }
 
 // Answers 0, or 5, 7, 8, 9, 10, 11 or 16 with nothing changed.

@@ -1,7 +1,8 @@
 -- The paper's numbers of refusals, and what a refusal is when it is handed on.
 -- Assumes nothing.
-use Rattle.std.proofs.Common.{ℕ, ◌≡◌, ◌∙◌, ap, arith, List, Result}
-use Rattle.std.specs.Result.{IsErrAnd}
+use Rattle.std.proofs.Common.{ℕ, ◌≡◌, ◌∙◌, refl, sym, ap, arith, List, true, false, true≢false, Result, Ok, Err}
+use mathlib.Core.Logic.{◌≢◌}
+use Rattle.std.specs.Result.{is_err, IsErrAnd}
 use Rattle.std.proofs.lemmas.Result.{err_from_is_err_and}
 use Rattle.formats.specs.Answer.{refused}
 use Rattle.formats.specs.Refusal.{number_of, answer_number, answer_of}
@@ -26,6 +27,15 @@ some_number Hash e = omega arith
 some_number CopyOut e = omega arith
 some_number PermitsFull e = omega arith
 some_number Filler e = omega arith
+
+-- an answer that is a refusal has another, and one that is none has that
+pub refused_some : {A : Type 0} (r : Result A Refusal) → is_err r ≡ true → answer_number r ≢ 0
+refused_some (Ok a) e = absurd (true≢false (sym e))
+refused_some (Err w) e = some_number w
+
+pub done_none : {A : Type 0} (r : Result A Refusal) → is_err r ≡ false → answer_number r ≡ 0
+done_none (Ok a) e = refl
+done_none (Err w) e = absurd (true≢false e)
 
 -- a refusal that is handed on keeps its number, and has it alone
 module _ {A : Type 0} (r : Result A Refusal) (w : Refusal) (h : IsErrAnd r (λ y. y ≡ w)) where
