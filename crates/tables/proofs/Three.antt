@@ -12,7 +12,7 @@ use lib.ListN.{length}
 use Rattle.formats.specs.Half.{flagged_with}
 use Rattle.calls.specs.Buffers.{title_at, rule_at, one, first_of, copies, first_copy, entries_searched}
 use Rattle.tables.specs.Copies.{copy_at, may_hold, in_three, first_of_three}
-use Rattle.calls.proofs.First.{first_after, none_after}
+use Rattle.calls.proofs.First.{first_at_most, first_after, none_after}
 use Rattle.calls.proofs.Report.{no_copies, no_first_copy, searched_first, searched_all}
 use Rattle.tables.proofs.Counting.{Counted, three, three_over, moved, not_held}
 
@@ -71,6 +71,9 @@ module _ (t : ℕ → Bool) where
   pub none_of_3 : t 1 ≡ false → t 2 ≡ false → t 3 ≡ false → first_of 3 t ≡ 0
   unfolding first_of
   none_of_3 e1 e2 e3 = rw (e1, e2, e3) refl
+
+pub third_at_most : (c : ℕ) (titles rules : List ℕ) (n : ℕ) → first_of_three c titles rules n ≤ 3
+third_at_most c titles rules n = first_at_most (λ i. copy_at c titles rules (n + i)) 3
 
 -- a turn of a search by threes: no entry up to 3k is a copy
 module _ (c : ℕ) (titles rules : List ℕ) {k : ℕ} (z : first_of (3 * k) (copy_at c titles rules) ≡ 0) (within : k < 333) where

@@ -99,6 +99,7 @@ pub struct Search {
 pub fn find(card: Card, content: ContentId) -> Search
     ensures found { result.found ≡ not (eqb (copies content.0 card.entry.titles.now card.entry.rules.now) 0) }
     ensures read { result.read ≡ entries_searched content.0 card.entry.titles.now card.entry.rules.now }
+    ensures at_most_999 { result.read ≤ 999 }
 {
     for k in 0..333 {
         if may_hold(card.titles, 3 * k + 1, content) {

@@ -1,11 +1,9 @@
 -- `tables::copies::find` meets its contract: no entry before the next three is a copy.
 -- Assumes nothing.
-use Rattle.std.proofs.Common.{◌+◌, ◌*◌, refl, sym, ◌∙◌}
+use Rattle.std.proofs.Common.{◌*◌, refl, sym, ◌∙◌}
 use native.Mathlib.Omega.{arith}
 use Rattle.calls.specs.Buffers.{first_of}
-use Rattle.calls.proofs.First.{first_at_most}
-use Rattle.tables.specs.Copies.{copy_at}
-use Rattle.tables.proofs.Three.{found_in_three, read_to_it, not_in_three, none_may_be, none_on_card, all_read}
+use Rattle.tables.proofs.Three.{third_at_most, found_in_three, read_to_it, not_in_three, none_may_be, none_on_card, all_read}
 use Rattle.tables.proofs.copies.find.Goals as goal
 use Rattle.tables.proofs.copies.find.Goals.{then-may_hold+else-bytes-ne0, else-may_hold}
 
@@ -15,7 +13,7 @@ loop-k-init c = refl
 
 pub overflow_add-result : goal.overflow_add-result
 overflow_add-result c =
-    let few = first_at_most (λ i. copy_at c.args.content.0 c.args.card.titles.now c.args.card.rules.now (3 * c.loop-k.k + i)) 3 in
+    let few = third_at_most c.args.content.0 c.args.card.titles.now c.args.card.rules.now (3 * c.loop-k.k) in
     omega (arith, c.bytes_to_copy-bytes.ensures)
 
 pub returns-then-bytes-ne0-clause-found : goal.returns-then-bytes-ne0-clause-found
@@ -23,6 +21,11 @@ returns-then-bytes-ne0-clause-found c = found_in_three _ _ _ c.loop-k.invariant 
 
 pub returns-then-bytes-ne0-clause-read : goal.returns-then-bytes-ne0-clause-read
 returns-then-bytes-ne0-clause-read c = read_to_it _ _ _ c.loop-k.invariant c.loop-k-test.true c.bytes_to_copy-bytes.ensures c.if-bytes-ne0.true
+
+pub returns-then-bytes-ne0-clause-at_most_999 : goal.returns-then-bytes-ne0-clause-at_most_999
+returns-then-bytes-ne0-clause-at_most_999 c =
+    let few = third_at_most c.args.content.0 c.args.card.titles.now c.args.card.rules.now (3 * c.loop-k.k) in
+    omega (arith, c.bytes_to_copy-bytes.ensures)
 
 pub loop-k-preserved : goal.loop-k-preserved
 loop-k-preserved c =
