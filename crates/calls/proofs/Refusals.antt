@@ -210,7 +210,7 @@ none_is_0 pair (MoveIn c j h) b = refl
 none_is_0 pair (Delete j f) b = refl
 
 -- the first number of a list of conditions is one of theirs
-abbrev pub at_most : ℕ → List ℕ → Bool
+abbrev at_most : ℕ → List ℕ → Bool
 at_most m [] = true
 at_most m (n ∷ ns) = leb n m && at_most m ns
 

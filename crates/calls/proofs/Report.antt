@@ -4,7 +4,7 @@ use Prim.Native.Nat.{ℕ, ◌≤◌}
 use mathlib.Core.Path.{◌≡◌, refl, sym, ap, ◌∙◌}
 use mathlib.Core.Logic.{◌≢◌}
 use mathlib.Core.List.{List, [], ◌∷◌}
-use mathlib.Core.Bool.{Bool, not, true, false, true≢false}
+use mathlib.Core.Bool.{Bool, cond, not, true, false, true≢false}
 use native.Mathlib.Omega.{arith}
 use native.Mathlib.Decide.{ℕ_discrete}
 use lib.Dec.{eqb}
@@ -38,7 +38,7 @@ module _ (c : ℕ) (titles rules : List ℕ) where
   no_first_copy none = first_is_0 copy_at 999 none
 
   -- what a search for it reads
-  pub searched_at_most : entries_searched c titles rules ≤ 999
+  searched_at_most : entries_searched c titles rules ≤ 999
   unfolding entries_searched first_copy
   searched_at_most = read_at_most copy_at 999
 
@@ -58,6 +58,9 @@ module _ (pair : Pair) (c : ContentId) (j : EntryNumber) (h : ℕ) (b : Buffers)
   abbrev last : List Condition
   last = 14 unless eqb (copies c.0 b.titles b.rules) 0 ∷ []
 
+  abbrev read : ℕ
+  read = entries_searched c.0 b.titles b.rules
+
   -- they refuse
   pub refused_earlier : w ≢ 0 → w ≡ refusal pair (MoveIn c j h) b
   unfolding refusal conditions
@@ -65,16 +68,20 @@ module _ (pair : Pair) (c : ContentId) (j : EntryNumber) (h : ℕ) (b : Buffers)
 
   pub nothing_read : w ≢ 0 → 0 ≡ move_in_report pair c j h b
   unfolding move_in_report
-  nothing_read some = sym (rw (ne_eqb (first earlier) 0 (λ z. some (e ∙ z))) refl)
+  nothing_read some =
+      let none : cond (eqb (first earlier) 0) read 0 ≡ 0 = ap (λ (x : Bool). cond x read 0) (ne_eqb (first earlier) 0 (λ z. some (e ∙ z))) in
+      sym none
 
   -- none of them does: the search for a copy decides, and it is reported
   pub by_search : w ≡ 0 → {n : ℕ} → n ≡ first last → n ≡ refusal pair (MoveIn c j h) b
   unfolding refusal conditions
   by_search zero q = next_stage earlier last refl (sym e ∙ zero) q
 
-  pub search_read : w ≡ 0 → entries_searched c.0 b.titles b.rules ≡ move_in_report pair c j h b
+  pub search_read : w ≡ 0 → read ≡ move_in_report pair c j h b
   unfolding move_in_report
-  search_read zero = sym (rw (eq-eqb (first earlier) 0 (sym e ∙ zero)) refl)
+  search_read zero =
+      let all : cond (eqb (first earlier) 0) read 0 ≡ read = ap (λ (x : Bool). cond x read 0) (eq-eqb (first earlier) 0 (sym e ∙ zero)) in
+      sym all
 
   -- their numbers are below 14
   below_14 : w ≤ 12

@@ -101,7 +101,3 @@ module _ (pair : Pair) (k : Request) {read b : Buffers} (same : read ≡ b) wher
 
     pub carried_out : {after : Buffers} → after ≡ effect k b → Answers pair k b 0 after
     carried_out = done pair k b (e ∙ ap (refusal pair k) same) refl
-
--- a request that is one of the calls is answered as that call
-pub for_request : (pair : Pair) (b : Buffers) {k k' : Request} {r : ℕ} {after : Buffers} → k ≡ k' → Answers pair k' b r after → Answers pair k b r after
-for_request pair b e q = q ∙ ap (λ (k : Request). perform pair k b) (sym e)

@@ -56,7 +56,7 @@ module _ (pair : Pair) (k : Request) (b : Buffers) (ds : List Condition) {w : �
   apart : first ((argument_conditions k ++ head_conditions pair k b) ++ ds) ≡ first (argument_conditions k ++ (head_conditions pair k b ++ ds))
   apart = ap first (append_assoc (argument_conditions k) (head_conditions pair k b) ds)
 
-  pub refused_before : w ≢ 0 → w ≡ first (argument_conditions k ++ (head_conditions pair k b ++ ds))
+  refused_before : w ≢ 0 → w ≡ first (argument_conditions k ++ (head_conditions pair k b ++ ds))
   refused_before some = first_stage (argument_conditions k ++ head_conditions pair k b) ds e some ∙ apart
 
   pub next_after : {n : ℕ} → w ≡ 0 → n ≡ first ds → n ≡ first (argument_conditions k ++ (head_conditions pair k b ++ ds))
