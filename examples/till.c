@@ -1,6 +1,6 @@
 /*
  * One title's way through a till: registered, lent, returned, moved to the card and back, deleted. Beside it a picture, lent
- * and returned. Then a call as request bytes, written and read back.
+ * and returned. Then a call as request bytes, written and read back, and a basket of requests, previewed and committed.
  */
 #include <inttypes.h>
 #include <stdio.h>
@@ -21,6 +21,11 @@ static uint8_t picture_ledger[COUNTER_LEDGER_SIZE(PICTURES)];
 static uint8_t picture_titles[COUNTER_TITLES_SIZE];
 static uint8_t picture_rules[COUNTER_RULES_SIZE];
 
+/* Where a basket is previewed: as long as the originals. */
+static uint8_t scratch_ledger[sizeof ledger];
+static uint8_t scratch_titles[sizeof titles];
+static uint8_t scratch_rules[sizeof rules];
+
 /* Each buffer is passed as a pointer and a length. */
 #define LEDGER ledger, sizeof ledger
 #define TITLES titles, sizeof titles
@@ -28,6 +33,9 @@ static uint8_t picture_rules[COUNTER_RULES_SIZE];
 #define PICTURE_LEDGER picture_ledger, sizeof picture_ledger
 #define PICTURE_TITLES picture_titles, sizeof picture_titles
 #define PICTURE_RULES picture_rules, sizeof picture_rules
+#define SCRATCH_LEDGER scratch_ledger, sizeof scratch_ledger
+#define SCRATCH_TITLES scratch_titles, sizeof scratch_titles
+#define SCRATCH_RULES scratch_rules, sizeof scratch_rules
 
 static void show(const char *step, uint64_t answer)
 {
@@ -90,6 +98,42 @@ static void show_request(uint64_t kind, const uint64_t arguments[COUNTER_ARGUMEN
     printf("    kind %" PRIu64 ", content %" PRIu64 ", entry %" PRIu64 ", from %zu bytes\n", read_kind, read[0], read[1], again);
 }
 
+/* The clerk sees what each request would be answered, on what those before it leave, and then commits them. */
+static void serve_a_basket(uint64_t f1)
+{
+    /* The arguments of each call in their order. Title 2 has one permit, so it is lent to entry 8 once entry 7 is back. */
+    const struct counter_request basket[COUNTER_BASKET_SIZE] = {
+        {COUNTER_REGISTER, {2, 2, 0, 3, 1, 0x77665544332211, 0xeeddccbbaa9988}},
+        {COUNTER_CHECK_OUT, {2, 7}},
+        {COUNTER_CHECK_OUT, {2, 8}},
+        {COUNTER_CHECK_IN, {7, f1}},
+        {COUNTER_CHECK_OUT, {2, 8}},
+    };
+    const char *const steps[] = {"  register title 2", "  check out to entry 7", "  check out to entry 8 too",
+                                 "  check in entry 7", "  check out to entry 8"};
+    const uint64_t count = sizeof steps / sizeof steps[0];
+    uint64_t answers[COUNTER_BASKET_SIZE], as_previewed = 0;
+    uint64_t answer = counter_preview(COUNTER_AUDIO, LEDGER, TITLES, RULES, SCRATCH_LEDGER, SCRATCH_TITLES, SCRATCH_RULES,
+                                      basket, count, answers);
+
+    show("preview a basket", answer);
+    if (answer != COUNTER_DONE)
+        return;
+    for (uint64_t i = 0; i < count; i++)
+        show(steps[i], answers[i]);
+    /* Nothing has happened yet: no copy of title 2 is on the card. */
+    show_copies(COUNTER_AUDIO, TITLES, RULES, 2);
+
+    printf("commit the basket\n");
+    for (uint64_t i = 0; i < count; i++) {
+        answer = counter_perform(COUNTER_AUDIO, LEDGER, TITLES, RULES, &basket[i]);
+        show(steps[i], answer);
+        as_previewed += answer == answers[i];
+    }
+    printf("    answered as previewed: %" PRIu64 " of %" PRIu64 "\n", as_previewed, count);
+    show_copies(COUNTER_AUDIO, TITLES, RULES, 2);
+}
+
 int main(void)
 {
     /* Title 1: one generation, three moves, one copy at a time. The card's secure module supplies keys and hash. */
@@ -100,8 +144,7 @@ int main(void)
 
     show("format a ledger", counter_format_ledger(LEDGER, ROWS, APPLICATION));
     show("format a card", counter_format_card(COUNTER_AUDIO, TITLES, RULES, APPLICATION));
-    show("register title 1",
-         counter_register(LEDGER, title, cci, trigger, rights, permits, title_key, sti_key));
+    show("register title 1", counter_register(LEDGER, title, cci, trigger, rights, permits, title_key, sti_key));
 
     show("check out to entry 7", counter_check_out(COUNTER_AUDIO, LEDGER, TITLES, RULES, title, 7));
     show("check out to entry 8 too", counter_check_out(COUNTER_AUDIO, LEDGER, TITLES, RULES, title, 8));
@@ -121,12 +164,13 @@ int main(void)
 
     show("delete entry 10", counter_delete(COUNTER_AUDIO, LEDGER, TITLES, RULES, 10, f1, f2, f3, f4));
     show("delete entry 10 again", counter_delete(COUNTER_AUDIO, LEDGER, TITLES, RULES, 10, f1, f2, f3, f4));
-    show("register title 1 again",
-         counter_register(LEDGER, title, cci, trigger, rights, permits, title_key, sti_key));
+    show("register title 1 again", counter_register(LEDGER, title, cci, trigger, rights, permits, title_key, sti_key));
 
     lend_a_picture(f1);
 
     /* check-out of title 5 to entry 999; the places after a kind's arguments count for nothing */
-    show_request(3, (const uint64_t[COUNTER_ARGUMENTS]){5, 999});
+    show_request(COUNTER_CHECK_OUT, (const uint64_t[COUNTER_ARGUMENTS]){5, 999});
+
+    serve_a_basket(f1);
     return 0;
 }

@@ -4,7 +4,8 @@
  * A title lives in one place, its holder: a row of the shop's ledger or a full entry of the card. Its permits say how many
  * loan copies may be out, its move rights how often it may move; 15 means unlimited in both. Seven calls change a title,
  * two write a fresh ledger and a fresh card, one counts copies, and one writes a sheet of it all to print. Two more read and
- * write the calls as request bytes.
+ * write the calls as request bytes, one carries out a call that is given as a kind and arguments, and one previews what a basket
+ * of these would be answered.
  *
  * Link with libtill.a, which is for Linux on x86-64 and needs no flags: cc till.c libtill.a
  *
@@ -44,7 +45,9 @@
  *
  * - Each pointer points to as many bytes as its length says, readable and (where it is not const) writable. No pointer is
  *   null, also where its length is 0.
- * - The buffers of one call do not overlap, nor do the places for the numbers that it writes, with them or with each other.
+ * - The buffers of one call, a preview's scratch buffers among them, do not overlap, nor do the places for the numbers that it
+ *   writes, with them or with each other. A request or a basket that a call reads overlaps nothing that it writes.
+ * - Arrays have as many places as this header says: arguments nine, a basket and its answers sixteen, whatever count is.
  * - Nobody else writes to the buffers while a call runs, and nobody reads them while a call runs that may write them. Calls
  *   on different buffers may run at the same time: the library keeps nothing between calls.
  * - Music and pictures have a ledger each, and every call that is lent a card names the pair that its ledger is for.
@@ -57,7 +60,8 @@
  * Every function answers a number: COUNTER_DONE (0), or the number of a refusal. A refusal changes no byte of any buffer.
  * Places that a function writes numbers to keep their values on a refusal, but for *entries_read of counter_move_in, which
  * is always written. The first test that fails gives the answer, and each function's comment has its numbers in the order
- * tested. The seven calls, formatting and tally test in the order of the numbers. The sheet tests 1 last, after 7, 8 and 9.
+ * tested. The seven calls, formatting, tally and preview test in the order of the numbers. The sheet tests 1 last, after 7,
+ * 8 and 9. Performing a request tests its kind, 3, and then what its call tests.
  * Reading a request tests each number of the request for 1, for 2 and for its own limit (3 to 6) before it reads the next.
  * Writing one tests its kind and arguments in their order (3 to 6), and 1 last. counter_text names a number in words.
  *
@@ -84,7 +88,7 @@ extern "C" {
  * The interface that this header declares: 1 more with each release that changes a declaration. The linker does not compare
  * parameters, so compile a till anew with the header of its library.
  */
-#define COUNTER_INTERFACE 4
+#define COUNTER_INTERFACE 5
 
 /* The two pairs of tables, for `bool pair`. */
 #define COUNTER_AUDIO false
@@ -102,7 +106,10 @@ extern "C" {
 /* Permits or rights that are not counted down. */
 #define COUNTER_UNLIMITED 15
 
-/* The answers. 1 to 3 are about bytes read and written; only the functions on requests have them, and the sheet 1. */
+/*
+ * The answers. 1 to 3 are about requests and bytes; only the functions on requests have them, and the sheet 1. 17 and 18 are
+ * those of a preview alone.
+ */
 enum {
     COUNTER_DONE = 0,           /* done */
     COUNTER_TOO_SHORT = 1,      /* request bytes end too early, or too little room for them */
@@ -120,7 +127,9 @@ enum {
     COUNTER_HASH = 13,          /* hash differs from the stored one */
     COUNTER_COPY_OUT = 14,      /* a copy of the title is on the card */
     COUNTER_PERMITS_FULL = 15,  /* permits are 14 already */
-    COUNTER_FILLER = 16         /* a filler would leave a key in place */
+    COUNTER_FILLER = 16,        /* a filler would leave a key in place */
+    COUNTER_BASKET = 17,        /* more than 16 requests in a basket */
+    COUNTER_SCRATCH = 18        /* a scratch buffer whose length is not its original's */
 };
 
 /* An answer in words. */
@@ -144,6 +153,8 @@ static inline const char *counter_text(uint64_t number)
     case COUNTER_COPY_OUT: return "a copy of the title is on the card";
     case COUNTER_PERMITS_FULL: return "permits are 14 already";
     case COUNTER_FILLER: return "a filler would leave a key in place";
+    case COUNTER_BASKET: return "more than 16 requests in a basket";
+    case COUNTER_SCRATCH: return "a scratch buffer whose length is not its original's";
     default: return "no answer of the counter";
     }
 }
@@ -305,6 +316,23 @@ uint64_t counter_sheet(bool pair, const uint8_t *ledger, size_t ledger_len, cons
 #define COUNTER_ARGUMENTS 9
 #define COUNTER_LONGEST_REQUEST 53
 
+/* The kinds. */
+enum {
+    COUNTER_REGISTER = 1,
+    COUNTER_RECORD = 2,
+    COUNTER_CHECK_OUT = 3,
+    COUNTER_CHECK_IN = 4,
+    COUNTER_MOVE_OUT = 5,
+    COUNTER_MOVE_IN = 6,
+    COUNTER_DELETE = 7
+};
+
+/* A request in numbers: its kind, and its arguments in their order. What stands in the places after them counts for nothing. */
+struct counter_request {
+    uint64_t kind;
+    uint64_t arguments[COUNTER_ARGUMENTS];
+};
+
 /*
  * Reads the request at the front of bytes.
  *
@@ -325,6 +353,46 @@ uint64_t counter_read_request(const uint8_t *bytes, size_t bytes_len, uint64_t *
  */
 uint64_t counter_write_request(uint8_t *bytes, size_t bytes_len, uint64_t kind, const uint64_t arguments[COUNTER_ARGUMENTS],
                                size_t *used);
+
+/*
+ * Carries out a request that is given in numbers: the call of its kind, with its arguments.
+ *
+ * Answers 3 where its kind is not 1 to 7; else what the call answers.
+ * Done: the buffers are as the call leaves them. (A move in reports no entries here; counter_move_in does.)
+ */
+uint64_t counter_perform(bool pair, uint8_t *ledger, size_t ledger_len, uint8_t *titles, size_t titles_len, uint8_t *rules,
+                         size_t rules_len, const struct counter_request *request);
+
+/*
+ * PREVIEW
+ *
+ * A basket is up to 16 requests. Its preview tells what they would be answered if they were carried out now, one after
+ * another, each on what the one before it left: it copies ledger and tables to three scratch buffers of the caller's and
+ * carries the requests out there. So the originals stay as they are, and nothing has happened to any title. To commit the
+ * basket, give its requests to counter_perform in their order, with the same pair: if nothing else was done to the originals
+ * meanwhile, it answers what the preview told, and the buffers end as the scratch buffers did. A preview may be left at that, or be made
+ * again with another basket; what stood in the scratch buffers before counts for nothing.
+ */
+
+/* The places of a basket, and of its answers. */
+#define COUNTER_BASKET_SIZE 16
+
+/*
+ * Previews the first `count` requests of a basket. What stands in the places after them counts for nothing; there are always
+ * sixteen, and as many for the answers.
+ *
+ * Answers 17 where count is above 16; 18 where a scratch buffer's length is not that of its original. No request is looked at
+ * before that, and a head that is wrong, 7 to 9, is no refusal of the preview but the answer to each request that meets it.
+ * Done: answers has the answer of each request in its place: 0, or the number that it is refused with, and 3 where a place
+ * has a kind that is none. A refused request changes nothing, and those after it are carried out all the same. Places past
+ * the count have 0. The scratch buffers are as the requests that were done leave them.
+ * On a refusal no byte of the scratch buffers changes, and answers keep their values. Ledger, tables and basket are only read.
+ */
+uint64_t counter_preview(bool pair, const uint8_t *ledger, size_t ledger_len, const uint8_t *titles, size_t titles_len,
+                         const uint8_t *rules, size_t rules_len, uint8_t *scratch_ledger, size_t scratch_ledger_len,
+                         uint8_t *scratch_titles, size_t scratch_titles_len, uint8_t *scratch_rules, size_t scratch_rules_len,
+                         const struct counter_request basket[COUNTER_BASKET_SIZE], uint64_t count,
+                         uint64_t answers[COUNTER_BASKET_SIZE]);
 
 #ifdef __cplusplus
 }

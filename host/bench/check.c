@@ -1,4 +1,4 @@
-/* The two libraries side by side on random shops, calls and requests: the same answers, and the same bytes left. */
+/* The two libraries side by side on random shops, calls, requests and previews: the same answers, and the same bytes left. */
 #include <inttypes.h>
 #include <stdio.h>
 #include <stdlib.h>
@@ -7,6 +7,7 @@
 #include "scenes.h"
 
 #define CALLS_ON_A_SHOP 24
+#define ANSWERS (COUNTER_SCRATCH + 1)
 #define KEY_LIMIT ((uint64_t)1 << 56)
 
 static uint64_t random_state = 0x9e3779b97f4a7c15;
@@ -172,6 +173,7 @@ struct call {
     bool pair;
     uint64_t content, entry, cci, trigger, rights, permits, title_key, sti_key, hash, f[4];
     size_t text_len;
+    struct counter_request request;
 };
 
 static const struct {
@@ -179,9 +181,27 @@ static const struct {
     bool has_pair;
 } operations[] = {{"format ledger", false}, {"format card", true}, {"register", false}, {"record", true}, {"check-out", true},
                   {"check-in", true},       {"move out", true},    {"move in", true},   {"delete", true}, {"tally", true},
-                  {"sheet", true}};
+                  {"sheet", true},          {"perform", true}};
 
 #define OPERATIONS (sizeof operations / sizeof operations[0])
+
+/* A call's arguments as a request of one of the seven kinds, or of none. What stands in the places after them is no argument. */
+static struct counter_request request_of(const struct call *c, uint64_t kind)
+{
+    uint64_t rest = random_word();
+    struct counter_request requests[] = {
+        {kind, {c->content, c->entry, rest, rest, rest, rest, rest, rest, rest}},
+        {kind, {c->content, c->cci, c->trigger, c->rights, c->permits, c->title_key, c->sti_key, rest, rest}},
+        {kind, {c->content, c->entry, c->cci, c->trigger, c->rights, c->permits, c->title_key, c->sti_key, c->hash}},
+        {kind, {c->content, c->entry, rest, rest, rest, rest, rest, rest, rest}},
+        {kind, {c->entry, c->f[0], rest, rest, rest, rest, rest, rest, rest}},
+        {kind, {c->entry, c->hash, c->f[0], c->f[1], c->f[2], c->f[3], rest, rest, rest}},
+        {kind, {c->content, c->entry, c->hash, rest, rest, rest, rest, rest, rest}},
+        {kind, {c->entry, c->f[0], c->f[1], c->f[2], c->f[3], rest, rest, rest, rest}},
+    };
+
+    return requests[kind <= COUNTER_DELETE ? kind : 0];
+}
 
 /* A call for a card that was formatted for `pair`: mostly of that pair. */
 static struct call random_call(bool pair)
@@ -203,6 +223,7 @@ static struct call random_call(bool pair)
         call.f[i] = random_word() << 56 | below(8);
     /* Sheets of small shops fit about as often as not. */
     call.text_len = one_in(4) ? COUNTER_SHEET_SIZE : below(120);
+    call.request = request_of(&call, near(8, COUNTER_DELETE));
     return call;
 }
 
@@ -225,7 +246,8 @@ static uint64_t perform(const struct counter *counter, struct state *state, cons
     case 7: return counter->move_in(pair, L, T, R, call->content, call->entry, call->hash, &state->entries_read);
     case 8: return counter->delete_entry(pair, L, T, R, call->entry, call->f[0], call->f[1], call->f[2], call->f[3]);
     case 9: return counter->tally(pair, T, R, call->content, &state->copies);
-    default: return counter->sheet(pair, L, T, R, state->text, call->text_len, &state->used);
+    case 10: return counter->sheet(pair, L, T, R, state->text, call->text_len, &state->used);
+    default: return counter->perform(pair, L, T, R, &call->request);
     }
 }
 
@@ -243,13 +265,11 @@ static void differ(const char *what, uint64_t proved_answer, uint64_t plain_answ
 }
 
 /* Counts a call's answer with those of its operation and, where it takes one, its pair. */
-static void check_calls(uint64_t seen[OPERATIONS][2][17])
+static void check_calls(const struct state *start, bool pair, uint64_t seen[OPERATIONS][2][ANSWERS])
 {
     static struct state one, other;
-    bool pair = one_in(2) ? COUNTER_PICTURE : COUNTER_AUDIO;
 
-    random_state_of(&one, pair);
-    other = one;
+    one = other = *start;
     for (unsigned i = 0; i < CALLS_ON_A_SHOP; i++) {
         struct call call = random_call(pair);
         uint64_t one_answer, other_answer;
@@ -264,9 +284,69 @@ static void check_calls(uint64_t seen[OPERATIONS][2][17])
     }
 }
 
+/* ---------------------------------------------------------------- previews */
+
+/* What a preview is lent beside ledger and tables, and where it answers. */
+struct preview {
+    struct shop scratch;
+    size_t ledger_len, titles_len, rules_len;
+    struct counter_request basket[COUNTER_BASKET_SIZE];
+    uint64_t count, answers[COUNTER_BASKET_SIZE];
+};
+
+/* A length of a scratch buffer: mostly its original's. */
+static size_t scratch_len(size_t length)
+{
+    if (one_in(16))
+        return one_in(2) && length > 0 ? length - 1 : below(length + 1);
+    return length;
+}
+
+static void random_preview(struct preview *preview, const struct state *start, bool pair)
+{
+    memset(preview, 0xa5, sizeof *preview);
+    preview->ledger_len = scratch_len(start->ledger_len);
+    preview->titles_len = scratch_len(start->titles_len);
+    preview->rules_len = scratch_len(start->rules_len);
+    preview->count = near(COUNTER_BASKET_SIZE + 1, COUNTER_BASKET_SIZE);
+    for (size_t i = 0; i < COUNTER_BASKET_SIZE; i++)
+        preview->basket[i] = random_call(pair).request;
+}
+
+static uint64_t run_preview(const struct counter *counter, const struct state *state, bool pair, struct preview *preview)
+{
+    return counter->preview(pair, L, T, R, preview->scratch.ledger, preview->ledger_len, preview->scratch.titles,
+                            preview->titles_len, preview->scratch.rules, preview->rules_len, preview->basket, preview->count,
+                            preview->answers);
+}
+
+/* Counts its answer, and those of the requests in it. */
+static void check_preview(const struct state *start, bool pair, uint64_t seen[ANSWERS], uint64_t seen_inside[ANSWERS])
+{
+    static struct state state;
+    static struct preview one, other;
+    uint64_t one_answer, other_answer;
+
+    state = *start;
+    random_preview(&one, start, pair);
+    other = one;
+    pair = one_in(8) ? !pair : pair;
+    one_answer = run_preview(&proved, &state, pair, &one);
+    other_answer = run_preview(&plain, &state, pair, &other);
+    if (one_answer != other_answer || memcmp(&one, &other, sizeof one) != 0)
+        differ("preview", one_answer, other_answer);
+    if (memcmp(&state, start, sizeof state) != 0) {
+        printf("preview: ledger or tables changed\n");
+        exit(1);
+    }
+    seen[one_answer]++;
+    for (size_t i = 0; one_answer == COUNTER_DONE && i < one.count; i++)
+        seen_inside[one.answers[i]]++;
+}
+
 /* ---------------------------------------------------------------- requests */
 
-static void check_reading(uint64_t seen[17])
+static void check_reading(uint64_t seen[ANSWERS])
 {
     uint8_t bytes[100] = {0};
     size_t length = below(sizeof bytes + 1);
@@ -290,7 +370,7 @@ static void check_reading(uint64_t seen[17])
     seen[one_answer]++;
 }
 
-static void check_writing(uint64_t seen[17])
+static void check_writing(uint64_t seen[ANSWERS])
 {
     static const uint64_t edges[] = {999, 999, 1, 1, 15, 15, KEY_LIMIT, KEY_LIMIT, UINT64_MAX};
     uint8_t one[100], other[100];
@@ -311,10 +391,10 @@ static void check_writing(uint64_t seen[17])
 
 /* ---------------------------------------------------------------- all of it */
 
-static void show(const char *name, const char *pair, const uint64_t seen[17])
+static void show(const char *name, const char *pair, const uint64_t seen[ANSWERS])
 {
     printf("  %-17s%-8s", name, pair);
-    for (unsigned answer = 0; answer <= 16; answer++)
+    for (unsigned answer = 0; answer < ANSWERS; answer++)
         if (seen[answer] != 0)
             printf(" %u: %" PRIu64, answer, seen[answer]);
     printf("\n");
@@ -322,10 +402,16 @@ static void show(const char *name, const char *pair, const uint64_t seen[17])
 
 void check_random(unsigned shops)
 {
-    static uint64_t seen[OPERATIONS][2][17], seen_reading[17], seen_writing[17];
+    static uint64_t seen[OPERATIONS][2][ANSWERS], seen_reading[ANSWERS], seen_writing[ANSWERS], seen_previews[ANSWERS];
+    static uint64_t seen_inside[ANSWERS];
+    static struct state start;
 
     for (unsigned i = 0; i < shops; i++) {
-        check_calls(seen);
+        bool pair = one_in(2) ? COUNTER_PICTURE : COUNTER_AUDIO;
+
+        random_state_of(&start, pair);
+        check_calls(&start, pair, seen);
+        check_preview(&start, pair, seen_previews, seen_inside);
         for (unsigned j = 0; j < CALLS_ON_A_SHOP; j++) {
             check_reading(seen_reading);
             check_writing(seen_writing);
@@ -339,4 +425,6 @@ void check_random(unsigned shops)
     }
     show("reading requests", "", seen_reading);
     show("writing requests", "", seen_writing);
+    show("previews", "", seen_previews);
+    show("requests in them", "", seen_inside);
 }

@@ -786,3 +786,54 @@ uint64_t plain_write_request(uint8_t *bytes, size_t bytes_len, uint64_t kind, co
     *used = (size_t)(next - bytes);
     return COUNTER_DONE;
 }
+
+/* ---------------------------------------------------------------- requests carried out, and previewed */
+
+uint64_t plain_perform(bool pair, uint8_t *ledger, size_t ledger_len, uint8_t *titles, size_t titles_len, uint8_t *rules,
+                       size_t rules_len, const struct counter_request *request)
+{
+    const uint64_t *a = request->arguments;
+    uint64_t entries_read;
+
+    switch (request->kind) {
+    case COUNTER_REGISTER:
+        return plain_register(ledger, ledger_len, a[0], a[1], a[2], a[3], a[4], a[5], a[6]);
+    case COUNTER_RECORD:
+        return plain_record(pair, ledger, ledger_len, titles, titles_len, rules, rules_len, a[0], a[1], a[2], a[3], a[4],
+                            a[5], a[6], a[7], a[8]);
+    case COUNTER_CHECK_OUT:
+        return plain_check_out(pair, ledger, ledger_len, titles, titles_len, rules, rules_len, a[0], a[1]);
+    case COUNTER_CHECK_IN:
+        return plain_check_in(pair, ledger, ledger_len, titles, titles_len, rules, rules_len, a[0], a[1]);
+    case COUNTER_MOVE_OUT:
+        return plain_move_out(pair, ledger, ledger_len, titles, titles_len, rules, rules_len, a[0], a[1], a[2], a[3], a[4],
+                              a[5]);
+    case COUNTER_MOVE_IN:
+        return plain_move_in(pair, ledger, ledger_len, titles, titles_len, rules, rules_len, a[0], a[1], a[2],
+                             &entries_read);
+    case COUNTER_DELETE:
+        return plain_delete(pair, ledger, ledger_len, titles, titles_len, rules, rules_len, a[0], a[1], a[2], a[3], a[4]);
+    default:
+        return COUNTER_KIND;
+    }
+}
+
+uint64_t plain_preview(bool pair, const uint8_t *ledger, size_t ledger_len, const uint8_t *titles, size_t titles_len,
+                       const uint8_t *rules, size_t rules_len, uint8_t *scratch_ledger, size_t scratch_ledger_len,
+                       uint8_t *scratch_titles, size_t scratch_titles_len, uint8_t *scratch_rules, size_t scratch_rules_len,
+                       const struct counter_request basket[COUNTER_BASKET_SIZE], uint64_t count,
+                       uint64_t answers[COUNTER_BASKET_SIZE])
+{
+    if (count > COUNTER_BASKET_SIZE)
+        return COUNTER_BASKET;
+    if (scratch_ledger_len != ledger_len || scratch_titles_len != titles_len || scratch_rules_len != rules_len)
+        return COUNTER_SCRATCH;
+    memcpy(scratch_ledger, ledger, ledger_len);
+    memcpy(scratch_titles, titles, titles_len);
+    memcpy(scratch_rules, rules, rules_len);
+    memset(answers, 0, COUNTER_BASKET_SIZE * sizeof *answers);
+    for (size_t i = 0; i < count; i++)
+        answers[i] = plain_perform(pair, scratch_ledger, ledger_len, scratch_titles, titles_len, scratch_rules, rules_len,
+                                   &basket[i]);
+    return COUNTER_DONE;
+}

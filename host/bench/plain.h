@@ -51,4 +51,13 @@ uint64_t plain_read_request(const uint8_t *bytes, size_t bytes_len, uint64_t *ki
 uint64_t plain_write_request(uint8_t *bytes, size_t bytes_len, uint64_t kind, const uint64_t arguments[COUNTER_ARGUMENTS],
                              size_t *used);
 
+uint64_t plain_perform(bool pair, uint8_t *ledger, size_t ledger_len, uint8_t *titles, size_t titles_len, uint8_t *rules,
+                       size_t rules_len, const struct counter_request *request);
+
+uint64_t plain_preview(bool pair, const uint8_t *ledger, size_t ledger_len, const uint8_t *titles, size_t titles_len,
+                       const uint8_t *rules, size_t rules_len, uint8_t *scratch_ledger, size_t scratch_ledger_len,
+                       uint8_t *scratch_titles, size_t scratch_titles_len, uint8_t *scratch_rules, size_t scratch_rules_len,
+                       const struct counter_request basket[COUNTER_BASKET_SIZE], uint64_t count,
+                       uint64_t answers[COUNTER_BASKET_SIZE]);
+
 #endif

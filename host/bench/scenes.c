@@ -32,15 +32,15 @@
 const struct counter proved = {counter_format_ledger, counter_format_card, counter_register, counter_record,
                                counter_check_out,     counter_check_in,    counter_move_out, counter_move_in,
                                counter_delete,        counter_tally,       counter_sheet,    counter_read_request,
-                               counter_write_request};
+                               counter_write_request, counter_perform,     counter_preview};
 const struct counter plain = {plain_format_ledger, plain_format_card, plain_register, plain_record,
                               plain_check_out,     plain_check_in,    plain_move_out, plain_move_in,
                               plain_delete,        plain_tally,       plain_sheet,    plain_read_request,
-                              plain_write_request};
+                              plain_write_request, plain_perform,     plain_preview};
 
 struct scene scenes[MOST_SCENES];
 size_t scene_count;
-uint8_t written[MOST_WRITTEN];
+_Alignas(64) struct output written;
 
 /* ---------------------------------------------------------------- states */
 
@@ -111,6 +111,19 @@ static uint64_t registers(const struct counter *counter, struct shop *shop, cons
     return sum;
 }
 
+/* By requests that differ in nothing but the row. */
+static uint64_t performed_registers(const struct counter *counter, struct shop *shop, const struct scene *scene)
+{
+    struct counter_request request = {COUNTER_REGISTER, {0, FACTS}};
+    uint64_t sum = 0;
+
+    for (EACH(content, scene->places)) {
+        request.arguments[0] = content;
+        sum += counter->perform(COUNTER_AUDIO, LEDGER(shop), TITLES(shop), RULES(shop), &request);
+    }
+    return sum;
+}
+
 static uint64_t records(const struct counter *counter, struct shop *shop, const struct scene *scene)
 {
     uint64_t sum = 0;
@@ -126,6 +139,19 @@ static uint64_t check_outs(const struct counter *counter, struct shop *shop, con
 
     for (EACH(entry, scene->places))
         sum += counter->check_out(COUNTER_AUDIO, LEDGER(shop), TITLES(shop), RULES(shop), TITLE, entry);
+    return sum;
+}
+
+/* By requests that differ in nothing but the entry. */
+static uint64_t performed_check_outs(const struct counter *counter, struct shop *shop, const struct scene *scene)
+{
+    struct counter_request request = {COUNTER_CHECK_OUT, {TITLE, 0}};
+    uint64_t sum = 0;
+
+    for (EACH(entry, scene->places)) {
+        request.arguments[1] = entry;
+        sum += counter->perform(COUNTER_AUDIO, LEDGER(shop), TITLES(shop), RULES(shop), &request);
+    }
     return sum;
 }
 
@@ -202,7 +228,8 @@ static uint64_t sheets(const struct counter *counter, struct shop *shop, const s
     size_t used = 0;
 
     for (unsigned i = 0; i < scene->calls; i++)
-        sum += counter->sheet(COUNTER_AUDIO, LEDGER_OF(shop, scene), TITLES(shop), RULES(shop), written, sizeof written, &used);
+        sum += counter->sheet(COUNTER_AUDIO, LEDGER_OF(shop, scene), TITLES(shop), RULES(shop), written.bytes,
+                              sizeof written.bytes, &used);
     return sum;
 }
 
@@ -228,9 +255,53 @@ static uint64_t write_requests(const struct counter *counter, struct shop *shop,
     (void)shop;
     for (unsigned pass = 0; pass < PASSES; pass++, at = 0)
         for (unsigned i = 0; i < REQUESTS; i++, at += used)
-            sum += counter->write_request(written + at, sizeof written - at, stream->kind[i], stream->arguments[i], &used);
+            sum += counter->write_request(written.bytes + at, sizeof written.bytes - at, stream->kind[i],
+                                          stream->arguments[i], &used);
     return sum;
 }
+
+static uint64_t previews(const struct counter *counter, struct shop *shop, const struct scene *scene)
+{
+    const struct basket *basket = scene->basket;
+    struct shop *scratch = &written.scratch;
+    uint64_t sum = 0;
+
+    for (unsigned i = 0; i < scene->calls; i++)
+        sum += counter->preview(COUNTER_AUDIO, LEDGER(shop), TITLES(shop), RULES(shop), LEDGER(scratch), TITLES(scratch),
+                                RULES(scratch), basket->requests, basket->count, written.answers);
+    return sum;
+}
+
+/* ---------------------------------------------------------------- baskets */
+
+#define REGISTER(content) {COUNTER_REGISTER, {content, FACTS}}
+#define RECORD(content, entry) {COUNTER_RECORD, {content, entry, FACTS, HASH}}
+#define CHECK_OUT(content, entry) {COUNTER_CHECK_OUT, {content, entry}}
+#define CHECK_IN(entry) {COUNTER_CHECK_IN, {entry, F1}}
+#define MOVE_OUT(entry) {COUNTER_MOVE_OUT, {entry, HASH, F1, F2, F3, F4}}
+#define MOVE_IN(content, entry) {COUNTER_MOVE_IN, {content, entry, HASH}}
+#define DELETE(entry) {COUNTER_DELETE, {entry, F1, F2, F3, F4}}
+
+/*
+ * Up to entry 899 even entries have copies of title 1, and odd ones hold titles; those after it are free. Titles 2, 4 to 98
+ * are here.
+ */
+#define IN_USE .card = COPIES_AND_TITLES, .here = {2, 98, 2}, .copies = {2, 898, 2}, .lent = 1, .full = {1, 899, 2}
+
+/* Each kind on what the shop has, and then on what the requests before it left. */
+static const struct basket all_done = {
+    16, COUNTER_DONE,
+    {REGISTER(3), RECORD(5, 901), CHECK_OUT(1, 902), CHECK_IN(2), MOVE_OUT(1), MOVE_IN(2, 903), DELETE(3), DELETE(4),
+     REGISTER(7), CHECK_OUT(7, 904), CHECK_IN(904), MOVE_IN(7, 904), MOVE_OUT(904), RECORD(9, 905), DELETE(905),
+     CHECK_OUT(1, 905)}};
+
+/* Each on an entry that is not of the kind needed, which all calls but register test. */
+static const struct basket all_refused = {
+    16, COUNTER_KIND_OF_ENTRY,
+    {RECORD(5, 1), CHECK_OUT(1, 2), CHECK_IN(1), MOVE_OUT(2), MOVE_IN(2, 3), DELETE(901), RECORD(7, 4), CHECK_OUT(1, 5),
+     CHECK_IN(902), MOVE_OUT(903), MOVE_IN(4, 6), DELETE(904), CHECK_OUT(2, 7), CHECK_IN(3), MOVE_OUT(8), MOVE_IN(6, 9)}};
+
+static const struct basket no_request = {0, COUNTER_DONE, {{0, {0}}}};
 
 /* ---------------------------------------------------------------- scenes */
 
@@ -252,11 +323,13 @@ static uint64_t write_requests(const struct counter *counter, struct shop *shop,
 #define NO .section = "refusal"
 #define ON .section = "scan", .batch = tallies, .calls = SCANS, .shops = 1
 #define SHEET .section = "sheet", .batch = sheets, .shops = 1
+#define PREVIEW .section = "preview", IN_USE, .batch = previews, .calls = 16, .shops = 1
 
 static const struct scene fixed[] = {
     {OP, .operation = "format ledger", .card = "-", .batch = format_ledgers, .calls = SCANS, .shops = 1},
     {OP, .operation = "format card", .card = "-", .batch = format_cards, .calls = SCANS, .shops = 1},
     {OP, .operation = "register", .card = "-", .batch = registers, .places = ALL_BUT_FIRST, .shops = 8},
+    {OP, .operation = "perform, register", .card = "-", .batch = performed_registers, .places = ALL_BUT_FIRST, .shops = 8},
     {OP, .operation = "record", .card = EMPTY, .batch = records, .places = ALL_BUT_LAST, .shops = 4},
     {OP, .operation = "record", .card = COPIES, .copies = EVEN, .lent = 1, .batch = records, .places = ODD_BUT_LAST,
      .shops = 8},
@@ -265,6 +338,7 @@ static const struct scene fixed[] = {
     {OP, .operation = "check-out", .card = EMPTY, .batch = check_outs, .places = ALL, .shops = 4},
     {OP, .operation = "check-out", .card = COPIES, .copies = EVEN, .lent = 1, .batch = check_outs, .places = ODD, .shops = 8},
     {OP, .operation = "check-out", .card = TITLES_THAT_DIFFER, .full = EVEN, .batch = check_outs, .places = ODD, .shops = 8},
+    {OP, .operation = "perform, check-out", .card = EMPTY, .batch = performed_check_outs, .places = ALL, .shops = 4},
     {OP, .operation = "check-in", .card = COPIES, .copies = ALL, .lent = 1, .batch = check_ins, .places = ALL, .shops = 4},
     {OP, .operation = "check-in", .card = TITLES_THAT_DIFFER, .copies = ODD, .lent = 1, .full = EVEN, .batch = check_ins,
      .places = ODD, .shops = 8},
@@ -315,6 +389,10 @@ static const struct scene fixed[] = {
      .full = {936, LAST - 1, 2}, .calls = 32},
     {SHEET, .operation = "999 rows", .card = COPIES_AND_TITLES, .here = EVEN, .copies = EVEN, .lent = 1, .full = ODD_BUT_LAST,
      .calls = 4},
+
+    {PREVIEW, .operation = "16 requests, all done", .basket = &all_done},
+    {PREVIEW, .operation = "16 requests, all refused", .basket = &all_refused},
+    {PREVIEW, .operation = "no request", .basket = &no_request},
 };
 
 /* Numbers of one byte each, or as long as the arguments allow. */

@@ -28,6 +28,9 @@ struct counter {
                       size_t *);
     uint64_t (*read_request)(const uint8_t *, size_t, uint64_t *, uint64_t *, size_t *);
     uint64_t (*write_request)(uint8_t *, size_t, uint64_t, const uint64_t *, size_t *);
+    uint64_t (*perform)(bool, uint8_t *, size_t, uint8_t *, size_t, uint8_t *, size_t, const struct counter_request *);
+    uint64_t (*preview)(bool, const uint8_t *, size_t, const uint8_t *, size_t, const uint8_t *, size_t, uint8_t *, size_t,
+                        uint8_t *, size_t, uint8_t *, size_t, const struct counter_request *, uint64_t, uint64_t *);
 };
 
 extern const struct counter proved, plain;
@@ -39,6 +42,12 @@ struct stream {
     uint64_t kind[REQUESTS], arguments[REQUESTS][COUNTER_ARGUMENTS];
     uint8_t bytes[REQUESTS * COUNTER_LONGEST_REQUEST];
     size_t length;
+};
+
+/* Requests to preview, and what each of them is answered. */
+struct basket {
+    uint64_t count, answer;
+    struct counter_request requests[COUNTER_BASKET_SIZE];
 };
 
 /* The caller's buffers. */
@@ -82,6 +91,7 @@ struct scene {
     unsigned shops;    /* a batch is run on so many shops alike */
     uint64_t answer;   /* of every call */
     struct stream *stream;
+    const struct basket *basket;
 };
 
 #define MOST_SCENES 128
@@ -95,12 +105,17 @@ void make_scenes(void);
 /* Brings a shop into the state from which a scene's calls start. */
 void prepare(struct shop *shop, const struct scene *scene);
 
-/* The bytes that a scene's requests, or its sheets, are written to. */
-#define MOST_WRITTEN COUNTER_SHEET_SIZE
-_Static_assert(REQUESTS * COUNTER_LONGEST_REQUEST <= MOST_WRITTEN, "room for the requests");
-extern uint8_t written[MOST_WRITTEN];
+/* What a scene's calls write beside the shop: requests, or a sheet; of a preview the scratch buffers and the answers. */
+struct output {
+    uint8_t bytes[COUNTER_SHEET_SIZE];
+    struct shop scratch;
+    uint64_t answers[COUNTER_BASKET_SIZE];
+};
 
-/* Ends the program where the two libraries differ on random shops, calls and requests. */
+_Static_assert(REQUESTS * COUNTER_LONGEST_REQUEST <= COUNTER_SHEET_SIZE, "room for the requests");
+extern struct output written;
+
+/* Ends the program where the two libraries differ on random shops, calls, requests and previews. */
 void check_random(unsigned shops);
 
 #endif

@@ -1,5 +1,6 @@
-//! The eleven operations, by document 01 and requests W1 to W5 of document 02, on tables of either pair: each tests its
-//! conditions in their order, and changes the tables, or what it writes beside them, only when none of them refuses.
+//! The eleven operations that a call names, by document 01 and requests W1 to W5 of document 02, on tables of either pair: each
+//! tests its conditions in their order, and changes the tables, or what it writes beside them, only when none of them refuses.
+//! What carries such calls out as requests, and previews them, is in `preview`.
 
 use crate::sheet::{self, MOST_TEXT};
 use crate::tables::{CardHead, Entry, EntryKind, Facts, LedgerHead, Pair, Row, RowState, RuleHalf, Tables, TitleHalf};
@@ -36,8 +37,8 @@ pub enum Operation {
     FormatCard,
 }
 
-/// The operations in their order, their names, and the answers that the paper allows them. The last two, from `FORMATTING` on,
-/// look at no bytes.
+/// The operations in their order, their names, and the answers that the paper allows them. The first seven are the kinds of
+/// requests, 1 to 7. The last two, from `FORMATTING` on, look at no bytes.
 pub const OPERATIONS: [(Operation, &str, &[u64]); 11] = [
     (Operation::Register, "register", &[0, 4, 6, 7, 11]),
     (Operation::Record, "record", &[0, 4, 5, 6, 7, 8, 9, 10, 11]),
@@ -51,6 +52,7 @@ pub const OPERATIONS: [(Operation, &str, &[u64]); 11] = [
     (Operation::FormatLedger, "format ledger", &[0, 4, 7]),
     (Operation::FormatCard, "format card", &[0, 8, 9]),
 ];
+pub const KINDS: usize = Operation::Delete as usize + 1;
 pub const FORMATTING: usize = Operation::FormatLedger as usize;
 
 impl Call {
@@ -88,24 +90,29 @@ impl Call {
         }
     }
 
-    /// The same operation with other arguments, of which there are as many as `arguments` lists.
-    pub fn with(&self, a: &[u64]) -> Call {
+    /// A call of this operation with these arguments, of which there are as many as `arguments` lists.
+    pub fn new(operation: Operation, a: &[u64]) -> Call {
         let facts =
             |a: &[u64]| Facts { cci: a[0], trigger: a[1], rights: a[2], permits: a[3], title_key: a[4], sti_key: a[5] };
         let fillers = |a: &[u64]| [a[0], a[1], a[2], a[3]];
-        match self {
-            Call::Register { .. } => Call::Register { content: a[0], facts: facts(&a[1..]) },
-            Call::Record { .. } => Call::Record { content: a[0], entry: a[1], facts: facts(&a[2..]), hash: a[8] },
-            Call::CheckOut { .. } => Call::CheckOut { content: a[0], entry: a[1] },
-            Call::CheckIn { .. } => Call::CheckIn { entry: a[0], f1: a[1] },
-            Call::MoveOut { .. } => Call::MoveOut { entry: a[0], hash: a[1], fillers: fillers(&a[2..]) },
-            Call::MoveIn { .. } => Call::MoveIn { content: a[0], entry: a[1], hash: a[2] },
-            Call::Delete { .. } => Call::Delete { entry: a[0], fillers: fillers(&a[1..]) },
-            Call::Tally { .. } => Call::Tally { content: a[0] },
-            Call::Sheet { .. } => Call::Sheet { room: a[0] },
-            Call::FormatLedger { .. } => Call::FormatLedger { rows: a[0], application: a[1] as u16 },
-            Call::FormatCard { .. } => Call::FormatCard { application: a[0] as u16 },
+        match operation {
+            Operation::Register => Call::Register { content: a[0], facts: facts(&a[1..]) },
+            Operation::Record => Call::Record { content: a[0], entry: a[1], facts: facts(&a[2..]), hash: a[8] },
+            Operation::CheckOut => Call::CheckOut { content: a[0], entry: a[1] },
+            Operation::CheckIn => Call::CheckIn { entry: a[0], f1: a[1] },
+            Operation::MoveOut => Call::MoveOut { entry: a[0], hash: a[1], fillers: fillers(&a[2..]) },
+            Operation::MoveIn => Call::MoveIn { content: a[0], entry: a[1], hash: a[2] },
+            Operation::Delete => Call::Delete { entry: a[0], fillers: fillers(&a[1..]) },
+            Operation::Tally => Call::Tally { content: a[0] },
+            Operation::Sheet => Call::Sheet { room: a[0] },
+            Operation::FormatLedger => Call::FormatLedger { rows: a[0], application: a[1] as u16 },
+            Operation::FormatCard => Call::FormatCard { application: a[0] as u16 },
         }
+    }
+
+    /// The same operation with other arguments.
+    pub fn with(&self, arguments: &[u64]) -> Call {
+        Call::new(self.operation(), arguments)
     }
 }
 

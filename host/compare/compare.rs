@@ -1,26 +1,35 @@
 //! Both implementations side by side: the same call on the same bytes, then answers and all bytes compared. And how often
 //! each answer came up.
 
-use crate::calls::{self, Call, Operation, Results, FORMATTING, OPERATIONS};
+use std::fmt::Debug;
+
+use crate::calls::{self, Call, Operation, Results, FORMATTING, KINDS, OPERATIONS};
 use crate::history::Titles;
+use crate::preview::{self, Basket, Previewed};
 use crate::requests::{self, Request};
 use crate::tables::{Pair, Tables, LAST_ENTRY, PAIRS};
 use crate::till;
 
-/// Answers are 0 to 16.
-const ANSWERS: usize = 17;
+/// Answers are 0 to 18.
+const ANSWERS: usize = 19;
 
 const READING: &[u64] = &[0, 1, 2, 3, 4, 5, 6];
 const WRITING: &[u64] = &[0, 1, 3, 4, 5, 6];
+const PREVIEWING: &[u64] = &[0, 17, 18];
+const OF_NO_KIND: &[u64] = &[3];
+
+/// How often requests gave each answer, by their kinds, with those of no kind in front.
+type OfKinds = [[u64; ANSWERS]; 1 + KINDS];
 
 /// What is being compared, for a message that tells how to get there again, and what came up so far.
 pub struct Run {
     pub seed: u64,
     pub part: &'static str,
     pub round: u64,
-    /// Calls of the other ten operations, sheets, and requests read and written.
+    /// Calls of the other ten operations, as requests too, sheets, previews, and requests read and written.
     pub calls: u64,
     pub sheets: u64,
+    pub previews: u64,
     pub requests: u64,
     /// What came up for audio titles, and for pictures.
     pairs: [OfPair; 2],
@@ -41,6 +50,10 @@ struct OfPair {
     sti_key_left: [[u64; ANSWERS]; OPERATIONS.len()],
     /// Move ins that found a copy, by the entries that they read.
     read_to_copy: Reads,
+    /// Calls that were requests in numbers, and those in baskets that were previewed.
+    performed: OfKinds,
+    in_baskets: OfKinds,
+    previews: [u64; ANSWERS],
 }
 
 /// How often a move in read so many entries, up to the first copy.
@@ -101,6 +114,7 @@ impl Run {
             round: 0,
             calls: 0,
             sheets: 0,
+            previews: 0,
             requests: 0,
             pairs: [OfPair::default(); 2],
             reading: [0; ANSWERS],
@@ -111,8 +125,9 @@ impl Run {
 
     /// A message that says where in the run something was found.
     pub fn found(&self, what: String) -> String {
-        let Run { seed, part, round, calls, sheets, requests, .. } = self;
-        format!("seed {seed}, {part}, round {round}, call {calls}, sheet {sheets}, request {requests}\n{what}")
+        let Run { seed, part, round, calls, sheets, previews, requests, .. } = self;
+        let place = format!("call {calls}, sheet {sheets}, preview {previews}, request {requests}");
+        format!("seed {seed}, {part}, round {round}, {place}\n{what}")
     }
 
     /// Notes how many titles demand 3 was tested of.
@@ -185,20 +200,38 @@ impl Run {
             for ((_, name, allowed), counts) in OPERATIONS.iter().zip(&self.pairs[pair as usize].operations) {
                 lines.push((format!("{pair:?} {name}"), *allowed, counts));
             }
+            lines.push((format!("{pair:?} preview"), PREVIEWING, &self.pairs[pair as usize].previews));
         }
         lines.push(("read request".to_string(), READING, &self.reading));
         lines.push(("write request".to_string(), WRITING, &self.writing));
         lines
     }
 
-    /// How often each answer came up, a line for each operation.
+    /// The same for calls as requests, one by one and in baskets: a kind allows what its operation does.
+    fn tables_of_kinds(&self) -> Vec<(String, &'static [u64], &[u64; ANSWERS])> {
+        let mut lines = Vec::new();
+        for pair in PAIRS {
+            let OfPair { performed, in_baskets, .. } = &self.pairs[pair as usize];
+            for (how, counts) in [("performed", performed), ("in a basket", in_baskets)] {
+                lines.push((format!("{pair:?} of no kind {how}"), OF_NO_KIND, &counts[0]));
+                for ((_, name, allowed), counts) in OPERATIONS.iter().zip(&counts[1..]) {
+                    lines.push((format!("{pair:?} {name} {how}"), *allowed, counts));
+                }
+            }
+        }
+        lines
+    }
+
+    /// How often each answer came up, a line for each operation, and one for all requests performed and for all in baskets.
     pub fn print(&self) {
         for (name, _, counts) in self.tables_of_answers() {
             print_line(&name, counts);
         }
         print_line("kinds read", &self.kinds_read);
         for pair in PAIRS {
-            let OfPair { titles, other_pair, sti_key_left, .. } = &self.pairs[pair as usize];
+            let OfPair { titles, other_pair, sti_key_left, performed, in_baskets, .. } = &self.pairs[pair as usize];
+            print_line(&format!("{pair:?} requests performed"), &OfPair::together(performed));
+            print_line(&format!("{pair:?} requests in baskets"), &OfPair::together(in_baskets));
             print_line(&format!("{pair:?} on tables of the other pair"), &OfPair::together(other_pair));
             print_line(&format!("{pair:?} with f2 the STI key"), &OfPair::together(sti_key_left));
             let Titles { with_holder, deleted, copies, lines, lines_after_deletes } = titles;
@@ -206,12 +239,13 @@ impl Run {
             print_line(&format!("{pair:?} copies by CCI granted"), copies);
             println!("{pair:?}: {lines} lines of sheets add up to the grant, {lines_after_deletes} of them with copies deleted");
         }
-        println!("{} calls, {} sheets and {} requests compared", self.calls, self.sheets, self.requests);
+        let Run { calls, sheets, previews, requests, .. } = self;
+        println!("{calls} calls, {sheets} sheets, {previews} previews and {requests} requests compared");
     }
 
     /// Each answer that the paper allows came up, and no other.
     pub fn complete(&self) -> Result<(), String> {
-        for (name, allowed, counts) in self.tables_of_answers() {
+        for (name, allowed, counts) in self.tables_of_answers().into_iter().chain(self.tables_of_kinds()) {
             for (answer, count) in counts.iter().enumerate() {
                 let came_up = *count > 0;
                 if came_up != allowed.contains(&(answer as u64)) {
@@ -236,9 +270,11 @@ fn print_line(name: &str, counts: &[u64]) {
     println!();
 }
 
-/// The same tables twice, the pair that calls on them are of, and what the last call wrote beside them.
+/// The same tables twice, the pair that calls on them are of, whether those that can be are made as requests in numbers, and
+/// what the last call wrote beside them.
 pub struct Sides {
     pub pair: Pair,
+    pub as_requests: bool,
     pub library: Tables,
     expected: Tables,
     library_results: Results,
@@ -250,6 +286,7 @@ impl Sides {
         let results = Results { entries_read: 0, tallied: 0, text: Vec::new(), used: 0 };
         Sides {
             pair,
+            as_requests: false,
             library: tables.clone(),
             expected: tables.clone(),
             library_results: results.clone(),
@@ -268,6 +305,12 @@ impl Sides {
 
     /// Makes the call on both sides and answers its number.
     pub fn call(&mut self, run: &mut Run, call: &Call) -> Result<u64, String> {
+        if self.as_requests {
+            // Behind the arguments stands what is past every limit, another number for each call.
+            if let Some(request) = preview::request_of(call, u64::MAX - run.calls) {
+                return self.perform(run, &request);
+            }
+        }
         match call {
             Call::Sheet { .. } => run.sheets += 1,
             _ => run.calls += 1,
@@ -277,13 +320,50 @@ impl Sides {
         let leaves_sti_key = calls::leaves_sti_key_alone(call, &self.library);
         let answer = till::perform(self.pair, call, &mut self.library, &mut self.library_results);
         let expected = calls::perform(self.pair, call, &mut self.expected, &mut self.expected_results);
-        if answer != expected || self.first_difference().is_some() {
-            let difference = self.first_difference().unwrap_or_default();
-            let what = format!("{:?} {call:?}\nlibrary answers {answer}, expected {expected}\n{difference}", self.pair);
-            return Err(run.found(what));
-        }
+        self.same(run, call, [answer, expected], self.first_difference())?;
         self.note(run, call, answer as usize, leaves_sti_key);
         Ok(answer)
+    }
+
+    /// Carries the request out on both sides and answers its number.
+    pub fn perform(&mut self, run: &mut Run, request: &Request) -> Result<u64, String> {
+        run.calls += 1;
+        let mut lent = *request;
+        let answer = till::perform_request(self.pair, &mut lent, &mut self.library);
+        let expected = preview::perform(self.pair, request, &mut self.expected);
+        let written_to = (lent != *request).then(|| format!("the request is now {lent:?}"));
+        self.same(run, request, [answer, expected], written_to.or_else(|| self.first_difference()))?;
+        run.pairs[self.pair as usize].performed[kind_or_none(request)][answer as usize] += 1;
+        Ok(answer)
+    }
+
+    /// Previews the basket on both sides, into buffers as lent, and answers its number. `lent` is then what the library wrote.
+    pub fn preview(&self, run: &mut Run, basket: &Basket, lent: &mut Previewed) -> Result<u64, String> {
+        run.previews += 1;
+        let (mut wanted, mut lent_basket) = (lent.clone(), basket.clone());
+        let answer = till::preview(self.pair, &self.library, &mut lent_basket, lent);
+        let expected = preview::preview(self.pair, &self.expected, basket, &mut wanted);
+        let written_to = (lent_basket != *basket).then(|| format!("the basket is now {lent_basket:?}"));
+        let difference = written_to.or_else(|| self.first_difference()).or_else(|| previewed_difference(lent, &wanted));
+        self.same(run, basket, [answer, expected], difference)?;
+        let came_up = &mut run.pairs[self.pair as usize];
+        came_up.previews[answer as usize] += 1;
+        if answer == 0 {
+            for (request, answer) in basket.requests().iter().zip(lent.answers) {
+                came_up.in_baskets[kind_or_none(request)][answer as usize] += 1;
+            }
+        }
+        Ok(answer)
+    }
+
+    /// Both answered the same, and there is no difference.
+    fn same(&self, run: &Run, what: &dyn Debug, answers: [u64; 2], difference: Option<String>) -> Result<(), String> {
+        let [answer, expected] = answers;
+        if answer == expected && difference.is_none() {
+            return Ok(());
+        }
+        let what = format!("{:?} {what:?}\nlibrary answers {answer}, expected {expected}", self.pair);
+        Err(run.found(format!("{what}\n{}", difference.unwrap_or_default())))
     }
 
     /// The sheet, where the last call wrote one. A refusal leaves more bytes used than there are.
@@ -307,16 +387,30 @@ impl Sides {
     }
 
     fn first_difference(&self) -> Option<String> {
-        let (library, expected) = (&self.library, &self.expected);
         let (written, wanted) = (&self.library_results, &self.expected_results);
         number_difference("entries read", written.entries_read, wanted.entries_read)
             .or_else(|| number_difference("tally", written.tallied, wanted.tallied))
             .or_else(|| number_difference("used", written.used as u64, wanted.used as u64))
             .or_else(|| difference("text", &written.text, &wanted.text))
-            .or_else(|| difference("ledger", &library.ledger, &expected.ledger))
-            .or_else(|| difference("title table", &library.titles, &expected.titles))
-            .or_else(|| difference("rule table", &library.rules, &expected.rules))
+            .or_else(|| tables_difference(&self.library, &self.expected))
     }
+}
+
+fn kind_or_none(request: &Request) -> usize {
+    if (1..=KINDS as u64).contains(&request.kind) { request.kind as usize } else { 0 }
+}
+
+fn tables_difference(library: &Tables, expected: &Tables) -> Option<String> {
+    difference("ledger", &library.ledger, &expected.ledger)
+        .or_else(|| difference("title table", &library.titles, &expected.titles))
+        .or_else(|| difference("rule table", &library.rules, &expected.rules))
+}
+
+fn previewed_difference(library: &Previewed, expected: &Previewed) -> Option<String> {
+    let (written, wanted) = (library.answers, expected.answers);
+    let answers = (written != wanted).then(|| format!("answers: {written:?} in the library, expected {wanted:?}"));
+    let of_scratch = || tables_difference(&library.scratch, &expected.scratch).map(|what| format!("scratch {what}"));
+    answers.or_else(of_scratch)
 }
 
 fn number_difference(what: &str, library: u64, expected: u64) -> Option<String> {

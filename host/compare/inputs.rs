@@ -198,7 +198,7 @@ pub fn likely_call(random: &mut Random, tables: &Tables, named: &Named, operatio
 }
 
 /// Whether row and entry are as the call needs them. Nothing else that may refuse the call is looked at.
-pub fn fits(tables: &Tables, call: &Call) -> bool {
+fn fits(tables: &Tables, call: &Call) -> bool {
     let row_is = |content, state| tables.row(content).is_some_and(|row| row.state() == state);
     let entry_is = |entry, kind| tables.entry(entry).is_some_and(|found| found.kind() == kind);
     match *call {
@@ -210,6 +210,19 @@ pub fn fits(tables: &Tables, call: &Call) -> bool {
         Call::MoveIn { content, entry, .. } => row_is(content, RowState::Here) && entry_is(entry, EntryKind::Free),
         Call::Delete { entry, .. } => !entry_is(entry, EntryKind::Free),
         Call::Tally { .. } | Call::Sheet { .. } | Call::FormatLedger { .. } | Call::FormatCard { .. } => true,
+    }
+}
+
+/// Often there is no row or entry for an operation. Others are then tried before a call is made that will be refused.
+pub fn fitting_call(random: &mut Random, tables: &Tables, named: &Named, often: &[Operation]) -> Call {
+    let mut tries = random.pick(&[0, 2, 4, 8]);
+    loop {
+        let operation = random.pick(often);
+        let call = likely_call(random, tables, named, operation);
+        if tries == 0 || fits(tables, &call) {
+            return call;
+        }
+        tries -= 1;
     }
 }
 

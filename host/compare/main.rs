@@ -1,15 +1,17 @@
-//! Compares the library with an implementation of its own of document 01 and of requests W1 to W5 of document 02, by fields
+//! Compares the library with an implementation of its own of document 01 and of requests W1 to W6 of document 02, by fields
 //! and structures, on many inputs, with tables of either pair.
 //!
 //! compare calls COUNT SEED: at least so many calls. compare seconds N SEED: round after round, each with a seed of its
 //! own, until the time is over. Its exit code is 1 where anything differs, which is then printed, or where an answer that
 //! the paper allows never came up.
 
+mod baskets;
 mod calls;
 mod compare;
 mod history;
 mod inputs;
 mod parts;
+mod preview;
 mod request_bytes;
 mod requests;
 mod sheet;
@@ -32,11 +34,12 @@ fn all_values(run: &mut Run) -> Result<(), String> {
     PAIRS.into_iter().try_for_each(|pair| parts::every_byte(run, pair))?;
     PAIRS.into_iter().try_for_each(|pair| parts::full_card(run, pair))?;
     PAIRS.into_iter().try_for_each(|pair| parts::every_first_copy(run, pair))?;
+    PAIRS.into_iter().try_for_each(|pair| baskets::counts_and_lengths(run, pair))?;
     (0..10).try_for_each(|round| parts::arguments_at_limits(run, round))?;
     (0..6).try_for_each(|round| parts::formats(run, round))
 }
 
-/// Histories, varied tables and requests, until there were so many calls.
+/// Histories and varied tables with previews, and requests, until there were so many calls.
 fn random_values(run: &mut Run, calls: u64) -> Result<(), String> {
     let mut round = 0;
     while run.calls < calls {

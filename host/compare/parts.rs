@@ -1,6 +1,7 @@
 //! The parts of a run that make calls: histories, varied tables, every value of every byte, arguments at their limits, and
 //! formatting.
 
+use crate::baskets;
 use crate::calls::{self, Call, Operation, Results, FORMATTING, OPERATIONS};
 use crate::compare::{Run, Sides};
 use crate::history::{Counts, Titles};
@@ -27,6 +28,13 @@ const SHEET: Call = Call::Sheet { room: MOST_TEXT as u64 };
 /// In one of so many histories the sheet is written after each call. It takes longer than the call.
 const SHEETS_IN_ONE_OF: u64 = 4;
 
+/// One of so many calls of a history is made as a request, and one of so many has a preview before it.
+const AS_REQUEST_ONE_OF: u64 = 8;
+const PREVIEW_ONE_OF: u64 = 150;
+
+/// And so many of the varied tables have a preview.
+const PREVIEW_VARIED_ONE_OF: u64 = 8;
+
 /// A list of calls from a freshly formatted ledger and card, and what demand 3 counts in it.
 pub fn history(run: &mut Run, round: u64) -> Result<(), String> {
     (run.part, run.round) = ("histories", round);
@@ -42,14 +50,18 @@ pub fn history(run: &mut Run, round: u64) -> Result<(), String> {
     let often: Vec<Operation> = OFTEN.iter().flat_map(|(operation, times)| vec![*operation; *times]).collect();
     let deletes = random.pick(&[0, 1, 3, 8]);
     for number in 1..=random.pick(&[20, 50, 100, 200, 400, 1000]) {
+        if random.below(PREVIEW_ONE_OF) == 0 {
+            baskets::in_history(run, &mut random, &mut sides, &named, &mut counts)?;
+        }
         let mut call = if random.chance(deletes) {
             inputs::likely_call(&mut random, &sides.library, &named, Operation::Delete)
         } else {
-            fitting_call(&mut random, &sides.library, &named, &often)
+            inputs::fitting_call(&mut random, &sides.library, &named, &often)
         };
         if random.chance(3) {
             call = inputs::with_argument_at_limit(&mut random, &call);
         }
+        sides.as_requests = number % AS_REQUEST_ONE_OF == 0;
         noted_call(run, &mut sides, &mut counts, &call)?;
         if round % SHEETS_IN_ONE_OF == 0 {
             sides.call(run, &SHEET)?;
@@ -59,19 +71,6 @@ pub fn history(run: &mut Run, round: u64) -> Result<(), String> {
         }
     }
     check(run, &mut sides, &counts)
-}
-
-/// Often there is no row or entry for an operation. Others are then tried before a call is made that will be refused.
-fn fitting_call(random: &mut Random, tables: &Tables, named: &Named, often: &[Operation]) -> Call {
-    let mut tries = random.pick(&[0, 2, 4, 8]);
-    loop {
-        let operation = random.pick(often);
-        let call = inputs::likely_call(random, tables, named, operation);
-        if tries == 0 || inputs::fits(tables, &call) {
-            return call;
-        }
-        tries -= 1;
-    }
 }
 
 fn noted_call(run: &mut Run, sides: &mut Sides, counts: &mut Counts, call: &Call) -> Result<(), String> {
@@ -169,8 +168,12 @@ pub fn varied(run: &mut Run, round: u64) -> Result<(), String> {
     let pair = random.pick(&PAIRS);
     let (tables, named) = inputs::varied_tables(&mut random, pair);
     let mut sides = Sides::new(pair, &tables);
+    if round % PREVIEW_VARIED_ONE_OF == 0 {
+        baskets::on_varied(run, &mut random, &mut sides, &named)?;
+    }
     for number in 0..25 {
         sides.pair = if random.chance(95) { pair } else { pair.other() };
+        sides.as_requests = random.below(AS_REQUEST_ONE_OF) == 0;
         // A sheet of many rows takes long, so there is one. Formatting leaves nothing of what was varied, so it comes last.
         let operation = match number {
             0 => Operation::Sheet,
@@ -281,13 +284,15 @@ pub fn every_byte(run: &mut Run, pair: Pair) -> Result<(), String> {
     Ok(())
 }
 
-/// Each argument of calls that would be done, at and past each limit.
+/// Each argument of calls that would be done, at and past each limit. In every other round for a pair they are requests in
+/// numbers, which are previewed too.
 pub fn arguments_at_limits(run: &mut Run, round: u64) -> Result<(), String> {
     (run.part, run.round) = ("arguments at limits", round);
     let mut random = Random::new(run.seed, run.part, round);
     let pair = PAIRS[round as usize % 2];
     for situation in situations(&mut random, pair) {
         let mut sides = Sides::new(situation.pair, &situation.tables);
+        sides.as_requests = round / 2 % 2 == 1;
         for call in &situation.calls {
             let arguments = call.arguments();
             for place in 0..arguments.len() {
@@ -297,7 +302,12 @@ pub fn arguments_at_limits(run: &mut Run, round: u64) -> Result<(), String> {
                     arguments[place] = value;
                     call.with(&arguments)
                 });
-                each_call(run, &mut sides, &situation.tables, &changed.collect::<Vec<_>>())?;
+                let changed: Vec<Call> = changed.collect();
+                each_call(run, &mut sides, &situation.tables, &changed)?;
+                sides.set(&situation.tables);
+                if sides.as_requests {
+                    baskets::of_calls(run, &mut random, &sides, &changed)?;
+                }
             }
         }
     }

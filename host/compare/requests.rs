@@ -1,7 +1,9 @@
 //! Numbers in groups of seven bits, and requests: a kind and its arguments.
 
-/// A request with room for the most arguments that a kind has; those after its own are zero.
+/// A request with room for the most arguments that a kind has; those after its own are zero where it is read, and count for
+/// nothing where it is lent. So the library takes it too.
 #[derive(Clone, Copy, Debug, PartialEq)]
+#[repr(C)]
 pub struct Request {
     pub kind: u64,
     pub arguments: [u64; 9],

@@ -501,6 +501,10 @@ impl Tables {
         [&mut self.ledger, &mut self.titles, &mut self.rules][number]
     }
 
+    pub fn lengths(&self) -> [usize; 3] {
+        [&self.ledger, &self.titles, &self.rules].map(Vec::len)
+    }
+
     /// The head of a ledger whose length and head are right.
     pub fn ledger_head(&self) -> Option<LedgerHead> {
         let head = LedgerHead::read(self.ledger.get(..ROW_SIZE)?);

@@ -1,6 +1,7 @@
 //! The library under test, by its C interface (include/music_counter.h).
 
 use crate::calls::{Call, Results};
+use crate::preview::{Basket, Previewed};
 use crate::requests::Request;
 use crate::tables::{Pair, Tables};
 
@@ -50,6 +51,16 @@ extern "C" {
     ) -> u64;
     fn counter_write_request(
         bytes: *mut u8, bytes_len: usize, kind: u64, arguments: *const u64, used: *mut usize,
+    ) -> u64;
+    fn counter_perform(
+        pair: bool, ledger: *mut u8, ledger_len: usize, titles: *mut u8, titles_len: usize, rules: *mut u8, rules_len: usize,
+        request: *const Request,
+    ) -> u64;
+    fn counter_preview(
+        pair: bool, ledger: *const u8, ledger_len: usize, titles: *const u8, titles_len: usize, rules: *const u8,
+        rules_len: usize, scratch_ledger: *mut u8, scratch_ledger_len: usize, scratch_titles: *mut u8,
+        scratch_titles_len: usize, scratch_rules: *mut u8, scratch_rules_len: usize, basket: *const Request, count: u64,
+        answers: *mut u64,
     ) -> u64;
 }
 
@@ -120,4 +131,30 @@ pub fn write_request(bytes: &mut [u8], request: &Request, used: &mut usize) -> u
     let arguments = request.arguments.as_ptr();
     // Nine arguments, and the bytes of one slice.
     unsafe { counter_write_request(bytes.as_mut_ptr(), bytes.len(), request.kind, arguments, used) }
+}
+
+/// Carries the request of this pair out on the tables. The library may only read the request; it is lent as if it could write
+/// it, so that a caller can see whether it does.
+pub fn perform_request(pair: Pair, request: &mut Request, tables: &mut Tables) -> u64 {
+    let [ledger, titles, rules] = parts(tables);
+    // Three vectors that nobody else uses meanwhile, and one request.
+    unsafe { counter_perform(pair == Pair::Picture, ledger.0, ledger.1, titles.0, titles.1, rules.0, rules.1, request) }
+}
+
+/// Previews the basket, which is lent like a request above. A refusal leaves scratch buffers and answers as they are.
+pub fn preview(pair: Pair, tables: &Tables, basket: &mut Basket, previewed: &mut Previewed) -> u64 {
+    let [ledger, titles, rules] = [&tables.ledger, &tables.titles, &tables.rules].map(|table| (table.as_ptr(), table.len()));
+    let [to_ledger, to_titles, to_rules] = parts(&mut previewed.scratch);
+    let (places, answers) = (basket.places.as_mut_ptr(), previewed.answers.as_mut_ptr());
+    // Three vectors that are only read, three that nobody else uses meanwhile, and sixteen places of requests and of answers.
+    unsafe {
+        counter_preview(
+            pair == Pair::Picture, ledger.0, ledger.1, titles.0, titles.1, rules.0, rules.1, to_ledger.0, to_ledger.1,
+            to_titles.0, to_titles.1, to_rules.0, to_rules.1, places, basket.count, answers,
+        )
+    }
+}
+
+fn parts(tables: &mut Tables) -> [(*mut u8, usize); 3] {
+    [&mut tables.ledger, &mut tables.titles, &mut tables.rules].map(|table| (table.as_mut_ptr(), table.len()))
 }

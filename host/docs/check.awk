@@ -34,7 +34,7 @@ function take_in(file,    text, line, words, count, i, item, words_before) {
             if (!words_before) continue
             if (item && !((file, words[i]) in declared)) declared[file, words[i]] = line
             if (item && text ~ /^[a-z]/ && words[i] !~ /^(record|data|mod)$/) defined[file, words[i]] = 1
-            if (words[i] ~ /^(pub|fn|struct|enum|const|static)$/) item = 1
+            if (words[i] ~ /^(pub|fn|trait|struct|enum|const|static)$/) item = 1
             else if (words[i] !~ /^(abbrev|unfoldable|record|data|extern|"C")$/) words_before = 0
         }
     }

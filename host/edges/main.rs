@@ -6,6 +6,7 @@
 
 mod move_in;
 mod numbers;
+mod preview;
 mod sheet;
 mod shop;
 mod tables;
@@ -57,6 +58,15 @@ impl Case {
     fn bytes(self, name: &str, s: &[u8]) -> Case {
         self.with(name, format!("[{}]", hex(s)))
     }
+    // Numbers, of which there may be none, under one name; and rows and entries.
+    fn numbers(mut self, name: &str, numbers: &[u64]) -> Case {
+        self.names += &format!(" {name}");
+        self.answer += &numbers.iter().map(|x| format!(" {x}")).collect::<String>();
+        self
+    }
+    fn shown(self, name: &str, shop: &Shop) -> Case {
+        self.with(name, shop.shown().map(|s| format!("[{}]", hex(&s))).join(" "))
+    }
     fn facts(self, f: Facts) -> Case {
         let names = ["cci", "trigger", "rights", "permits", "title-key", "sti-key"];
         names.iter().zip(f.values()).fold(self, |case, (name, x)| case.number(name, x))
@@ -103,6 +113,7 @@ fn layer_cases() {
     remainder_cases();
     streams();
     move_in::cases();
+    preview::cases();
     no_cases();
 }
 
@@ -542,10 +553,7 @@ fn stream_of(pair: Pair, requests: &[u8]) {
     for i in 0..4 {
         case = case.number("answer", lines.get(i).map_or(99, |line| line.1));
     }
-    case.bytes("rows", &shop.rows[1..].concat())
-        .bytes("titles", &shop.titles[1..5].concat())
-        .bytes("rules", &shop.rules[1..5].concat())
-        .end();
+    ["rows", "titles", "rules"].iter().zip(shop.shown()).fold(case, |case, (name, s)| case.bytes(name, &s)).end();
 }
 
 fn streams() {
@@ -585,7 +593,11 @@ fn streams() {
 
 // Lines that are no case: no digits, a code that nothing has, fewer bytes than its numbers have.
 fn no_cases() {
-    for line in ["", "no digits", "00", "09", "7F", "FF", "1", "11", "12 00", "88 0000000000000000", "29 0000000000000000 0000000000000000"] {
+    let lines = [
+        "", "no digits", "00", "09", "7F", "FF", "1", "11", "12 00", "88 0000000000000000", "29 0000000000000000 0000000000000000",
+        "34 0000000000000000 0000000000000000", "36 0000000000000000 0000000000000000 0000000000000000",
+    ];
+    for line in lines {
         Case { line: line.to_string(), names: String::new(), answer: " ?".to_string() }.end();
     }
 }

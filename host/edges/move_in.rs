@@ -29,8 +29,6 @@ fn answer(shop: &Shop, call: &Call) -> u64 {
         4
     } else if !in_range(call.entry) {
         5
-    } else if call.short != 0 {
-        7 + u64::from(call.short.trailing_zeros())
     } else {
         shop.refusal(6, &[call.content, call.entry, 9])
     }
@@ -43,6 +41,7 @@ fn case(requests: &[u8], call: Call) {
 fn case_of(pair: Pair, requests: &[u8], call: Call) {
     let mut shop = Shop::fresh(pair);
     shop.serve(requests);
+    shop.short = call.short;
     let answer = answer(&shop, &call);
     let read = match answer {
         0 | 14 => shop.first_copy(call.content).unwrap_or(999),

@@ -1,14 +1,17 @@
-// A fresh ledger of 4 rows and a fresh card of either pair, and a stream of requests on them.
+// A fresh ledger of 4 rows and a fresh card of either pair, and requests on them.
 
 use crate::numbers::parse;
 use crate::tables::*;
 
-// Rows and halves by their numbers; place 0 is the head's.
+// Rows and halves by their numbers; place 0 is the head's. And which of ledger, titles and rules (1, 2, 4, added up) lack their last
+// byte when a call is lent them.
+#[derive(Clone)]
 pub struct Shop {
     pub pair: Pair,
     pub rows: Vec<Vec<u8>>,
     pub titles: Vec<Vec<u8>>,
     pub rules: Vec<Vec<u8>>,
+    pub short: u64,
 }
 
 // "less 1, or 15 unchanged", "plus 1, or 15 unchanged"
@@ -34,7 +37,29 @@ const FULL: u64 = 2;
 
 impl Shop {
     pub fn fresh(pair: Pair) -> Shop {
-        Shop { pair, rows: vec![vec![0; 24]; 5], titles: vec![vec![0; 16]; 1000], rules: vec![vec![0; 32]; 1000] }
+        Shop::of(pair, 0)
+    }
+    // Tables with the same byte everywhere.
+    pub fn of(pair: Pair, byte: u8) -> Shop {
+        let (rows, titles, rules) = (vec![vec![byte; 24]; 5], vec![vec![byte; 16]; 1000], vec![vec![byte; 32]; 1000]);
+        Shop { pair, rows, titles, rules, short: 0 }
+    }
+    // The last byte of each of the tables that are named as in `short`.
+    pub fn set_last_bytes(&mut self, named: u64, byte: u8) {
+        for (i, table) in [&mut self.rows, &mut self.titles, &mut self.rules].into_iter().enumerate() {
+            if named >> i & 1 == 1 {
+                *table.last_mut().unwrap().last_mut().unwrap() = byte;
+            }
+        }
+    }
+    // How many bytes of the tables are this one, which no head has.
+    pub fn bytes_that_are(&self, byte: u8) -> u64 {
+        let all = [&self.rows, &self.titles, &self.rules];
+        all.into_iter().flatten().flatten().filter(|b| **b == byte).count() as u64
+    }
+    // Rows and entries 1 to 4.
+    pub fn shown(&self) -> [Vec<u8>; 3] {
+        [&self.rows, &self.titles, &self.rules].map(|table| table[1..5].concat())
     }
     // 0 where no byte is left, or the number that stopped reading, and each request's kind and answer. A refused call stops
     // nothing.
@@ -83,8 +108,19 @@ impl Shop {
         self.set_title(j, c, f);
         self.rules[j as usize] = rule_form(f, hash, c);
     }
-    // The number of a request: of the conditions that hold, the first. Its arguments are in their limits and the heads are right.
+    // The number for heads that are wrong, since a table lacks a byte; or 0. "Register is lent the ledger only."
+    fn heads_refusal(&self, call: u64) -> u64 {
+        let short = if call == 1 { self.short % 2 } else { self.short };
+        if short == 0 { 0 } else { 7 + u64::from(short.trailing_zeros()) }
+    }
+    // The number of a request: of the conditions that hold, the first. Its arguments are in their limits.
     pub fn refusal(&self, call: u64, a: &[u64]) -> u64 {
+        match self.heads_refusal(call) {
+            0 => self.state_refusal(call, a),
+            number => number,
+        }
+    }
+    fn state_refusal(&self, call: u64, a: &[u64]) -> u64 {
         let j = if call == 1 { 0 } else if matches!(call, 2 | 3 | 6) { a[1] } else { a[0] };
         let (title, rule) = (&self.titles[j as usize], &self.rules[j as usize]);
         let kind = self.kind(j);
@@ -117,7 +153,7 @@ impl Shop {
         conditions.iter().find(|(_, holds)| *holds).map_or(0, |(number, _)| *number)
     }
     // Carries a request out where it is not refused, and answers its number.
-    fn perform(&mut self, call: u64, a: &[u64]) -> u64 {
+    pub fn perform(&mut self, call: u64, a: &[u64]) -> u64 {
         let number = self.refusal(call, a);
         if number == 0 {
             match call {

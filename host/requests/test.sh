@@ -346,9 +346,9 @@ answered 'no lines' <<< 'end   0  no byte is left'
 
 # every answer, in the words of the C header
 texts=$(sed -n 's/^ *case COUNTER_[A-Z_]*: return "\(.*\)";$/\1/p' "$root/include/music_counter.h")
-[ "$(wc -l <<< "$texts")" = 17 ] || differs 'every answer' 'the header does not have 17 texts'
-for number in {0..16}; do echo 'check-out 1 7'; done > lines.txt
-{ for number in {0..16}; do echo "3 $number"; done; echo 'end 0'; } > answers.txt
+[ "$(wc -l <<< "$texts")" = 19 ] || differs 'every answer' 'the header does not have 19 texts'
+for number in {0..18}; do echo 'check-out 1 7'; done > lines.txt
+{ for number in {0..18}; do echo "3 $number"; done; echo 'end 0'; } > answers.txt
 answered 'every answer' < <(
     number=0
     while read -r text; do printf 'check-out 1 7  %2d  %s\n' $((number++)) "$text"; done <<< "$texts"
@@ -417,7 +417,7 @@ unfit 'answers.txt:2: 4 is not a kind and an answer' '3 11' '4' 'end 0'
 unfit 'answers.txt:2: 4 10 0 is not a kind and an answer' '3 11' '4 10 0' 'end 0'
 unfit 'answers.txt:2: 4  10 is not a kind and an answer' '3 11' '4  10' 'end 0'
 unfit 'answers.txt:2: 4 +10 is not a kind and an answer' '3 11' '4 +10' 'end 0'
-unfit 'answers.txt:2: 4 17 is not a kind and an answer' '3 11' '4 17' 'end 0'
+unfit 'answers.txt:2: 4 19 is not a kind and an answer' '3 11' '4 19' 'end 0'
 lines 'check-out 1 7' 'check-in 7' > lines.txt
 unfit 'lines.txt:2: check-in lacks f1=' '3 11' 'end 0'
 

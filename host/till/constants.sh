@@ -4,9 +4,11 @@
 #   - every refusal's name, number and words: `// Words.` over the variant `SomeName = N,` of the enum Refusal in the source is
 #     `COUNTER_SOME_NAME = N` with `/* words */` in the header, and `counter_text` answers these words for it; 0 is `done`; there
 #     is no other constant, no number is left out and no two have the same words;
+#   - every kind of request, its name and number: `kind_of (SomeName ..) = N` in the definitions is `COUNTER_SOME_NAME = N` in the
+#     header's second enumeration, from 1 on; there is no other;
 #   - every size, and the two values of a pair: what the definitions or the code have for it;
-#   - the number of the interface: that of the last landing note that has one, whose checksum of the declarations is that of the
-#     header's, so that no declaration changes without a new number;
+#   - the number of the interface: that of the last landing note that has one, whose checksum of the declarations, of functions and
+#     of the struct of a request, is that of the header's, so that no declaration changes without a new number;
 #   - the numbers by name in host/requests, which takes its texts from the header.
 #
 # constants.sh FILE: the source in which refusals have their names. Exit code 1 where something differs, with what it is.
@@ -37,16 +39,31 @@ named() {
     sed -nE 's@^pub const ([A-Z_]+): u64 = ([0-9]+);$@\2 \1@p' "$1"
 }
 
-# The same of the header's enumeration, and of what counter_text answers.
+# The lines of the header's enumerations: of the answers, the first, and of the kinds, the second.
+enumeration() {
+    awk -v wanted="$1" '/^enum \{$/ { count++; inside = 1; next } /^};$/ { inside = 0 } inside && count == wanted' "$header"
+}
+
+# The same of the enumeration of the answers, and of what counter_text answers.
 enumerated() {
-    sed -nE 's@^ *COUNTER_([A-Z_]+) = ([0-9]+),? */\* (.*) \*/$@\2 \1 \3@p' "$header"
+    enumeration 1 | sed -nE 's@^ *COUNTER_([A-Z_]+) = ([0-9]+),? */\* (.*) \*/$@\2 \1 \3@p'
 }
 
 answered() {
     sed -nE 's@^ *case COUNTER_([A-Z_]+): return "(.*)";$@\1 \2@p' "$header" |
         while read -r name words; do
-            echo "$(sed -nE "s@^ *COUNTER_$name = ([0-9]+),? .*@\1@p" "$header") $name $words"
+            echo "$(enumeration 1 | sed -nE "s@^ *COUNTER_$name = ([0-9]+),? .*@\1@p") $name $words"
         done
+}
+
+# NUMBER NAME of each kind of request in its definition, its name spelled as a constant's, and in the header.
+defined_kinds() {
+    sed -nE 's@^kind_of \(([A-Za-z]+)( [a-z]+)*\) = ([0-9]+)$@\3 \1@p' crates/requests/specs/Request.antt |
+        sed -E 's@([a-z])([A-Z])@\1_\2@g; s@.*@\U&@' | sort -n
+}
+
+header_kinds() {
+    enumeration 2 | sed -nE 's@^ *COUNTER_([A-Z_]+) = ([0-9]+),?$@\2 \1@p'
 }
 
 # same WHAT WANTED FOUND: two lists, a line each, are the same.
@@ -63,8 +80,15 @@ last=$(($(wc -l <<< "$source") - 1))
 same 'the numbers of the source are not 0 to the last' "$(seq 0 $last)" "$(cut -d' ' -f1 <<< "$source")"
 same 'words that two numbers share' "$(cut -d' ' -f3- <<< "$source" | sort -u)" "$(cut -d' ' -f3- <<< "$source" | sort)"
 same "the constants of $header" "$source" "$(enumerated)"
-same "a line of the enumeration of $header is none of these" "$((last + 1))" "$(sed -n '/^enum {$/,/^};$/p' "$header" | grep -c COUNTER_)"
+same "a line of the first enumeration of $header is none of these" "$((last + 1))" "$(enumeration 1 | grep -c .)"
 same "counter_text of $header" "$source" "$(answered)"
+kinds=$(defined_kinds)
+kind_count=$(wc -l <<< "$kinds")
+same 'the kinds of the definition are not 1 to the last' "$(seq 1 "$kind_count")" "$(cut -d' ' -f1 <<< "$kinds")"
+same 'a line of kind_of is none of these' "$kind_count" "$(grep -c '^kind_of ' crates/requests/specs/Request.antt)"
+same "the kinds of $header" "$kinds" "$(header_kinds)"
+same "a line of the second enumeration of $header is none of these" "$kind_count" "$(enumeration 2 | grep -c .)"
+same "a constant of $header is in neither enumeration" "$((last + 1 + kind_count))" "$(grep -cE 'COUNTER_[A-Z0-9_]+ *=' "$header")"
 requests=$(named host/requests/answers.rs)
 [ -n "$requests" ] || { echo 'host/requests/answers.rs: no number has a name'; exit 1; }
 same 'host/requests/answers.rs' "$(cut -d' ' -f1,2 <<< "$source" | grep -xF "$requests")" "$requests"
@@ -102,9 +126,9 @@ pair() {
     sed -nE "s@^pair_of (false|true) = $1\$@\1@p" crates/till/specs/Given.antt
 }
 
-# The declarations of the header's functions, without their layout, as a checksum.
+# The declarations of the header's functions and of its struct, without their layout, as a checksum.
 declarations() {
-    sed -n '/^uint64_t counter_/,/;$/p' "$header" | tr -s ' \n' ' ' | cksum | cut -d' ' -f1
+    sed -n '/^uint64_t counter_/,/;$/p; /^struct counter_/,/^};$/p' "$header" | tr -s ' \n' ' ' | cksum | cut -d' ' -f1
 }
 
 interface=$(sed -nE 's@^Interface: ([0-9]+), declarations ([0-9]+)$@\1 \2@p' docs/landings/*.md | sort -n | tail -n 1)
@@ -119,8 +143,9 @@ SHEET_SIZE $(number '^sheet_size = ([0-9]+)$' crates/closing_sheet/specs/Demand1
 MOST_ROWS $(number '^numbered v = leb 1 v \&\& leb v ([0-9]+)' crates/formats/specs/Facts.antt)
 LAST_ENTRY $(number 'eqb \(number \(part t 10 2\)\) ([0-9]+) ' crates/formats/specs/Head.antt)
 UNLIMITED $(number '^pub const UNLIMITED: u64 = ([0-9]+);' crates/calls/src/count.rt)
+BASKET_SIZE $(number '17 when ltb ([0-9]+) count' crates/calls/specs/Preview.antt)
 ARGUMENTS $(number ' arguments: &mut \[u64; ([0-9]+)\]' crates/till/src/lib.rt)
 LONGEST_REQUEST $(longest_request)"
 defined=$(sed -nE 's@^#define COUNTER_([A-Z_]+)(\(rows\))? (.*)$@\1 \3@p' "$header" | sed -E 's@\((24 \* .*)\)$@\1@; s@\(\(size_t\)\(rows\)@(rows@')
 same "the sizes, pairs and interface of $header" "$(sort <<< "$sizes")" "$(sort <<< "$defined")"
-echo "constants: $((last + 1)) numbers with their words, $(wc -l <<< "$sizes") sizes and other constants"
+echo "constants: $((last + 1)) numbers with their words, $kind_count kinds, $(wc -l <<< "$sizes") sizes and other constants"

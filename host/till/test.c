@@ -1,7 +1,7 @@
 /*
  * Tests libtill.a through music_counter.h, call by call, against document 01 and, for picture tables, the closing sheet, the
- * CCI of copies and what a move in reports, requests W1 to W5 of document 02. All that is lent tables runs twice, with those
- * of either pair.
+ * CCI of copies, what a move in reports and previews, requests W1 to W6 of document 02. All that is lent tables runs twice,
+ * with those of either pair. Each call that can be a request in numbers is also made as one, and previewed.
  *
  * Before each call the test knows every byte of the buffers; after it, it knows every byte that the paper wants there, since
  * it sets them itself, field by field. All bytes are compared after every call, and so are the guard bytes
@@ -51,24 +51,38 @@ static void same(int line, const char *name, const char *what, uint64_t found, u
 
 /* ---------------------------------------------------------------- buffers */
 
-/* A buffer stands at the end of its room; `wanted` is what the whole room must hold after the next call. */
+/*
+ * A buffer stands at the end of its room; `wanted` is what the whole room must hold after the next call, `before` what it held
+ * when the test began to make it.
+ */
 struct buffer {
     const char *name;
-    uint8_t *room;
-    uint8_t *wanted;
+    uint8_t *room, *wanted, *before;
     size_t length;
 };
 
-static struct buffer ledger = {"ledger", NULL, NULL, 0};
-static struct buffer titles = {"title table", NULL, NULL, 0};
-static struct buffer rules = {"rule table", NULL, NULL, 0};
-static struct buffer text = {"text", NULL, NULL, 0};
+#define NO_ROOM NULL, NULL, NULL, 0
+
+static struct buffer ledger = {"ledger", NO_ROOM}, titles = {"title table", NO_ROOM}, rules = {"rule table", NO_ROOM};
+static struct buffer text = {"text", NO_ROOM};
+static struct buffer scratch_ledger = {"scratch ledger", NO_ROOM}, scratch_titles = {"scratch title table", NO_ROOM};
+static struct buffer scratch_rules = {"scratch rule table", NO_ROOM};
+static struct buffer basket = {"basket", NO_ROOM}, answers = {"answers", NO_ROOM};
+
+/* What a preview copies, and to where. */
+static struct buffer *const originals[] = {&ledger, &titles, &rules};
+static struct buffer *const scratch[] = {&scratch_ledger, &scratch_titles, &scratch_rules};
+
+/* What most functions are lent, and what previews and requests are lent beside it. */
+static struct buffer *const tables_and_text[] = {&ledger, &titles, &rules, &text, NULL};
+static struct buffer *const for_requests[] = {&scratch_ledger, &scratch_titles, &scratch_rules, &basket, &answers, NULL};
 
 static void make(struct buffer *b)
 {
     b->room = mmap(NULL, ROOM + PAGE, PROT_READ | PROT_WRITE, MAP_PRIVATE | MAP_ANONYMOUS, -1, 0);
     b->wanted = malloc(ROOM);
-    if (b->room == MAP_FAILED || b->wanted == NULL || mprotect(b->room + ROOM, PAGE, PROT_NONE) != 0) {
+    b->before = malloc(ROOM);
+    if (b->room == MAP_FAILED || b->wanted == NULL || b->before == NULL || mprotect(b->room + ROOM, PAGE, PROT_NONE) != 0) {
         printf("no room for the buffers\n");
         exit(1);
     }
@@ -125,14 +139,20 @@ static void put_byte(struct buffer *b, size_t at, unsigned value)
     put(b, at, 1, value);
 }
 
-/* What is wanted now is what the next call finds. */
-static void settle(void)
+static void settle_one(struct buffer *b)
 {
-    memcpy(ledger.room, ledger.wanted, ROOM);
-    memcpy(titles.room, titles.wanted, ROOM);
-    memcpy(rules.room, rules.wanted, ROOM);
-    memcpy(text.room, text.wanted, ROOM);
+    memcpy(b->room, b->wanted, ROOM);
+    memcpy(b->before, b->wanted, ROOM);
 }
+
+static void each_of(struct buffer *const *b, void (*each)(struct buffer *b))
+{
+    while (*b != NULL)
+        each(*b++);
+}
+
+/* What is wanted now is what the next call finds. */
+static void settle(void) { each_of(tables_and_text, settle_one); }
 
 static void compare(int line, const char *name, const struct buffer *b)
 {
@@ -144,6 +164,12 @@ static void compare(int line, const char *name, const struct buffer *b)
             printf("byte %ld of the %s, counted from its start: ", (long)i - (long)(ROOM - b->length), b->name);
             fail(line, name, "holds", b->room[i], b->wanted[i]);
         }
+}
+
+static void compare_each(int line, const char *name, struct buffer *const *b)
+{
+    while (*b != NULL)
+        compare(line, name, *b++);
 }
 
 /* ---------------------------------------------------------------- the tables, from documents 01 and 02 */
@@ -165,6 +191,7 @@ static struct {
     uint64_t rows, application, c, j;
     uint64_t cci, trigger, rights, permits, title_key, sti_key;
     uint64_t h, f1, f2, f3, f4;
+    uint64_t kind;
 } a;
 
 /* What tally, move in and sheet tell beside their answers. */
@@ -346,7 +373,7 @@ static const char *sheet(void)
     return out;
 }
 
-/* ---------------------------------------------------------------- the eleven functions */
+/* ---------------------------------------------------------------- the thirteen functions that are lent tables */
 
 #define LEDGER bytes(&ledger), ledger.length
 #define TITLES bytes(&titles), titles.length
@@ -366,6 +393,65 @@ static uint64_t call_move_in(void) { return counter_move_in(pair, LEDGER, CARD, 
 static uint64_t call_delete(void) { return counter_delete(pair, LEDGER, CARD, a.j, a.f1, a.f2, a.f3, a.f4); }
 static uint64_t call_tally(void) { return counter_tally(pair, CARD, a.c, &copies); }
 static uint64_t call_sheet(void) { return counter_sheet(pair, LEDGER, CARD, TEXT, &used); }
+
+/* The request at this place of the basket. */
+static const struct counter_request *place(size_t i)
+{
+    const void *front = bytes(&basket) + i * sizeof(struct counter_request);
+
+    return front;
+}
+
+/* A call of this kind as a request in numbers; behind its arguments, and in a request of no kind, stands anything. */
+static struct counter_request request_of(uint64_t kind)
+{
+    struct counter_request r;
+#define ARGUMENTS(...) memcpy(r.arguments, (uint64_t[]){__VA_ARGS__}, sizeof(uint64_t[]){__VA_ARGS__})
+
+    memset(&r, 0x5e, sizeof r);
+    r.kind = kind;
+    switch (kind) {
+    case COUNTER_REGISTER: ARGUMENTS(a.c, FACTS); break;
+    case COUNTER_RECORD: ARGUMENTS(a.c, a.j, FACTS, a.h); break;
+    case COUNTER_CHECK_OUT: ARGUMENTS(a.c, a.j); break;
+    case COUNTER_CHECK_IN: ARGUMENTS(a.j, a.f1); break;
+    case COUNTER_MOVE_OUT: ARGUMENTS(a.j, a.h, a.f1, a.f2, a.f3, a.f4); break;
+    case COUNTER_MOVE_IN: ARGUMENTS(a.c, a.j, a.h); break;
+    case COUNTER_DELETE: ARGUMENTS(a.j, a.f1, a.f2, a.f3, a.f4); break;
+    default: ARGUMENTS(a.c, a.j); break;
+    }
+    return r;
+}
+
+static void put_request(size_t i, struct counter_request r)
+{
+    memcpy(wanted(&basket) + i * sizeof r, &r, sizeof r);
+}
+
+static void put_answer(size_t i, uint64_t answer)
+{
+    memcpy(wanted(&answers) + i * sizeof answer, &answer, sizeof answer);
+}
+
+/* A request that stands alone, so that the page is behind it. */
+static uint64_t call_perform(void)
+{
+    resize(&basket, sizeof(struct counter_request));
+    put_request(0, request_of(a.kind));
+    settle_one(&basket);
+    return counter_perform(pair, LEDGER, CARD, place(0));
+}
+
+/* How many requests of the basket are to be previewed. */
+static uint64_t count;
+
+static uint64_t call_preview(void)
+{
+    void *told = bytes(&answers);
+
+    return counter_preview(pair, LEDGER, CARD, bytes(&scratch_ledger), scratch_ledger.length, bytes(&scratch_titles),
+                           scratch_titles.length, bytes(&scratch_rules), scratch_rules.length, place(0), count, told);
+}
 
 /* What each finds where it is done. Formatting finds anything. */
 static void ready_format(void)
@@ -463,6 +549,38 @@ static void after_sheet(void)
     memcpy(wanted(&text), front, used_wanted);
 }
 
+/* Scratch buffers as long as their originals, and places for a basket and its answers, all of them full of anything. */
+static void lend_scratch(void)
+{
+    for (size_t i = 0; i < 3; i++) {
+        resize(scratch[i], originals[i]->length);
+        memset(wanted(scratch[i]), 0xee, scratch[i]->length);
+    }
+    resize(&basket, COUNTER_BASKET_SIZE * sizeof(struct counter_request));
+    memset(wanted(&basket), 0xee, basket.length);
+    resize(&answers, COUNTER_BASKET_SIZE * sizeof(uint64_t));
+    memset(wanted(&answers), 0xee, answers.length);
+}
+
+/* What is wanted of the originals is wanted of the scratch buffers, and the originals are to stay. */
+static void to_scratch(void)
+{
+    for (size_t i = 0; i < 3; i++) {
+        memcpy(wanted(scratch[i]), wanted(originals[i]), originals[i]->length);
+        memcpy(originals[i]->wanted, originals[i]->before, ROOM);
+    }
+}
+
+/* And the other way round: a commit leaves what a preview left there. */
+static void from_scratch(void)
+{
+    for (size_t i = 0; i < 3; i++)
+        memcpy(wanted(originals[i]), wanted(scratch[i]), originals[i]->length);
+}
+
+static void ready_preview(void);
+static void after_preview(void);
+
 /*
  * What a move in with this answer reports: "the number of the first copy's entry if there is one, else 999. If an earlier
  * check refuses, the report is 0."
@@ -485,21 +603,26 @@ struct function {
     enum kind kind;             /* the kind of entry that it needs */
     enum state state;           /* the state of row that it needs */
     unsigned char refusals[10]; /* what it can be refused with, in the order tested */
+    uint64_t request;           /* the kind of request that it is, or 0 */
 };
 
 static const struct function functions[] = {
-    {"format ledger", ready_format, call_format_ledger, after_format_ledger, NO_ENTRY, ANY_STATE, {4, 7}},
-    {"format card", ready_format, call_format_card, after_format_card, NO_ENTRY, ANY_STATE, {8, 9}},
-    {"register", ready_empty, call_register, after_register, NO_ENTRY, EMPTY, {4, 6, 7, 11}},
-    {"record", ready_empty, call_record, after_record, FREE, EMPTY, {4, 5, 6, 7, 8, 9, 10, 11}},
-    {"check-out", ready_here, call_check_out, after_check_out, FREE, HERE, {4, 5, 7, 8, 9, 10, 11, 12}},
-    {"check-in", ready_copy, call_check_in, after_check_in, COPY, HERE, {5, 7, 8, 9, 10, 11, 15, 16}},
-    {"move out", ready_full, call_move_out, after_move_out, FULL, AWAY, {5, 7, 8, 9, 10, 11, 12, 13, 16}},
-    {"move in", ready_here, call_move_in, after_move_in, FREE, HERE, {4, 5, 7, 8, 9, 10, 11, 12, 14}},
-    {"delete of a copy", ready_copy, call_delete, after_delete_copy, COPY, ANY_STATE, {5, 7, 8, 9, 10, 16}},
-    {"delete of a full entry", ready_full, call_delete, after_delete_full, FULL, AWAY, {5, 7, 8, 9, 10, 11, 16}},
-    {"tally", ready_tally, call_tally, after_tally, NO_ENTRY, ANY_STATE, {4, 8, 9}},
-    {"sheet", ready_copy, call_sheet, after_sheet, NO_ENTRY, ANY_STATE, {7, 8, 9, 1}},
+    {"format ledger", ready_format, call_format_ledger, after_format_ledger, NO_ENTRY, ANY_STATE, {4, 7}, 0},
+    {"format card", ready_format, call_format_card, after_format_card, NO_ENTRY, ANY_STATE, {8, 9}, 0},
+    {"register", ready_empty, call_register, after_register, NO_ENTRY, EMPTY, {4, 6, 7, 11}, COUNTER_REGISTER},
+    {"record", ready_empty, call_record, after_record, FREE, EMPTY, {4, 5, 6, 7, 8, 9, 10, 11}, COUNTER_RECORD},
+    {"check-out", ready_here, call_check_out, after_check_out, FREE, HERE, {4, 5, 7, 8, 9, 10, 11, 12}, COUNTER_CHECK_OUT},
+    {"check-in", ready_copy, call_check_in, after_check_in, COPY, HERE, {5, 7, 8, 9, 10, 11, 15, 16}, COUNTER_CHECK_IN},
+    {"move out", ready_full, call_move_out, after_move_out, FULL, AWAY, {5, 7, 8, 9, 10, 11, 12, 13, 16}, COUNTER_MOVE_OUT},
+    {"move in", ready_here, call_move_in, after_move_in, FREE, HERE, {4, 5, 7, 8, 9, 10, 11, 12, 14}, COUNTER_MOVE_IN},
+    {"delete of a copy", ready_copy, call_delete, after_delete_copy, COPY, ANY_STATE, {5, 7, 8, 9, 10, 16}, COUNTER_DELETE},
+    {"delete of a full entry", ready_full, call_delete, after_delete_full, FULL, AWAY, {5, 7, 8, 9, 10, 11, 16},
+     COUNTER_DELETE},
+    {"tally", ready_tally, call_tally, after_tally, NO_ENTRY, ANY_STATE, {4, 8, 9}, 0},
+    {"sheet", ready_copy, call_sheet, after_sheet, NO_ENTRY, ANY_STATE, {7, 8, 9, 1}, 0},
+    /* a check-out whose kind is an argument too */
+    {"perform", ready_here, call_perform, after_check_out, FREE, HERE, {3, 4, 5, 7, 8, 9, 10, 11, 12}, 0},
+    {"preview", ready_preview, call_preview, after_preview, NO_ENTRY, ANY_STATE, {17, 18}, 0},
 };
 
 #define FUNCTIONS COUNT_OF(functions)
@@ -518,8 +641,8 @@ static const struct function *named(const char *name)
     exit(1);
 }
 
-/* Tables of `rows` rows, and arguments, such that f is done. */
-static void begin(const struct function *f, uint64_t rows, uint64_t c, uint64_t j)
+/* Arguments such that each function is done, on tables that are ready for it. */
+static void set_arguments(uint64_t rows, uint64_t c, uint64_t j)
 {
     a.rows = rows;
     a.application = APPLICATION;
@@ -536,30 +659,67 @@ static void begin(const struct function *f, uint64_t rows, uint64_t c, uint64_t 
     a.f2 = 0xf2b0b1b2b3b4b5b6;
     a.f3 = 0x73c0c1c2c3c4c5c6;
     a.f4 = 0x74d0d1d2d3d4d5d6;
+    a.kind = COUNTER_CHECK_OUT;
+}
+
+/* Tables of `rows` rows, and arguments, such that f is done. */
+static void begin(const struct function *f, uint64_t rows, uint64_t c, uint64_t j)
+{
+    set_arguments(rows, c, j);
     fresh_ledger(rows);
     fresh_card(APPLICATION);
     resize(&text, COUNTER_SHEET_SIZE);
     f->ready();
 }
 
-/* How often each function gave each answer, for each pair. */
-static unsigned long given[2][FUNCTIONS][COUNTER_FILLER + 1];
+/* How often each function gave each answer, and a request in a basket of more than one, for each pair. */
+static unsigned long given[2][FUNCTIONS][COUNTER_SCRATCH + 1], given_in_basket[2][COUNTER_SCRATCH + 1];
+
+/*
+ * The call as a request, the first in the basket: previewed alone, and then carried out. The originals are then again what they
+ * were before it.
+ */
+static void as_request(int line, const struct function *f, uint64_t answer)
+{
+    count = 1;
+    memset(wanted(&answers), 0, answers.length);
+    put_answer(0, answer);
+    to_scratch();
+    same(line, f->name, "as a request previewed", call_preview(), COUNTER_DONE);
+    compare_each(line, f->name, tables_and_text);
+    compare_each(line, f->name, for_requests);
+    from_scratch();
+    same(line, f->name, "as a request answered", counter_perform(pair, LEDGER, CARD, place(0)), answer);
+    compare_each(line, f->name, tables_and_text);
+    compare_each(line, f->name, for_requests);
+    for (size_t i = 0; i < 3; i++)
+        memcpy(originals[i]->room, originals[i]->before, ROOM);
+}
 
 /* Calls f on what is wanted now, and wants this answer and, where it is 0, what f leaves. */
 static void check(int line, const struct function *f, uint64_t answer)
 {
+    int lent_requests = f->request != 0 || f->call == call_perform || f->call == call_preview;
+
     memset(wanted(&text), 0xee, text.length);
+    if (f->request != 0) {
+        lend_scratch();
+        put_request(0, request_of(f->request));
+    }
+    if (lent_requests)
+        each_of(for_requests, settle_one);
     settle();
     copies = copies_wanted = used = used_wanted = entries_read = entries_read_wanted = 0xcccc;
     if (f->call == call_move_in)
         entries_read_wanted = report(answer);
     if (answer == COUNTER_DONE)
         f->after();
+    if (f->request != 0)
+        as_request(line, f, answer);
     same(line, f->name, "answered", f->call(), answer);
-    compare(line, f->name, &ledger);
-    compare(line, f->name, &titles);
-    compare(line, f->name, &rules);
-    compare(line, f->name, &text);
+    compare_each(line, f->name, tables_and_text);
+    if (lent_requests)
+        compare_each(line, f->name, for_requests);
     same(line, f->name, "entries read", entries_read, entries_read_wanted);
     same(line, f->name, "copies", copies, copies_wanted);
     same(line, f->name, "used", used, used_wanted);
@@ -568,15 +728,20 @@ static void check(int line, const struct function *f, uint64_t answer)
 
 #define CHECK(f, answer) check(__LINE__, f, answer)
 
-/* Each function was done, and gave each of its refusals, with tables of this pair. */
+/* Each function was done, and gave each of its refusals, with tables of this pair, and so did requests in baskets. */
 static void all_answers(void)
 {
     for (size_t i = 0; i < FUNCTIONS; i++) {
         size_t seen = given[pair][i][COUNTER_DONE] > 0;
 
-        for (unsigned number = 1; number <= COUNTER_FILLER; number++)
+        for (unsigned number = 1; number <= COUNTER_SCRATCH; number++)
             seen += refuses(&functions[i], number) && given[pair][i][number] > 0;
         same(__LINE__, functions[i].name, "answers that came up are", seen, 1 + strlen((const char *)functions[i].refusals));
+    }
+    for (unsigned number = 0; number <= COUNTER_SCRATCH; number++) {
+        int allowed = number == COUNTER_DONE || (COUNTER_KIND <= number && number <= COUNTER_FILLER);
+
+        same(__LINE__, "preview", "came up in baskets", given_in_basket[pair][number] > 0, allowed);
     }
 }
 
@@ -594,6 +759,7 @@ static void meet(const struct function *f, unsigned number)
 {
     switch (number) {
     case 1: resize(&text, strlen(sheet()) - 1); break;
+    case 3: a.kind = 8; break;
     case 4: a.c = a.rows = 1000; break;
     case 5: a.j = 1000; break;
     case 6: a.rights = 16; break;
@@ -603,7 +769,7 @@ static void meet(const struct function *f, unsigned number)
     case 10: halves(7, 1, 5, 1, 6); break;
     case 11: put_byte(&ledger, 24 * 5, 4); break;
     case 12:
-        if (f == named("check-out"))
+        if (f->after == after_check_out)
             put_byte(&ledger, 24 * 5 + 4, 0);
         if (f == named("move out"))
             put_byte(&rules, 32 * 7 + 16, 0x80);
@@ -614,18 +780,26 @@ static void meet(const struct function *f, unsigned number)
     case 14: title_half(8, 5); break;
     case 15: put_byte(&ledger, 24 * 5 + 4, 14); break;
     case 16: a.f1 = a.title_key; break;
+    case 17: count = COUNTER_BASKET_SIZE + 1; break;
+    case 18: resize(&scratch_titles, scratch_titles.length - 1); break;
     default: exit(2);
     }
 }
 
 /*
- * The same, where there is another way: a text of no bytes, a table of the other pair, or in an audio call an f2 that leaves
- * the STI key.
+ * The same, where there is another way: a text of no bytes, no kind at all, a table of the other pair, in an audio call an f2
+ * that leaves the STI key, the greatest count, or another scratch buffer.
  */
 static void meet_otherwise(const struct function *f, unsigned number)
 {
     if (number == 1)
         resize(&text, 0);
+    else if (number == 3)
+        a.kind = 0;
+    else if (number == 17)
+        count = TOP;
+    else if (number == 18)
+        resize(&scratch_rules, scratch_rules.length + 1);
     else if (number == 8 && f->ready != ready_format)
         of_other_pair(&titles);
     else if (number == 9 && f->ready != ready_format)
@@ -1659,6 +1833,270 @@ static void sheets(void)
     longest_sheets();
 }
 
+/* ---------------------------------------------------------------- baskets */
+
+/*
+ * A request of a basket: a call on a row or an entry that has these permits and rights, and its answer. A refusal that comes
+ * from the arguments is met with them. The kind is that of "perform"; a call that has one of its own does not look at it.
+ */
+struct step {
+    const char *name;
+    uint64_t c, j, permits, rights, answer, kind;
+};
+
+#define STEPS COUNTER_BASKET_SIZE
+
+/* A title granted, lent, taken back and moved, and another recorded where it stood, on fresh tables. */
+static const struct step a_title[STEPS] = {
+    {"register", 5, 7, 2, 3, 0, 0},
+    {"register", 5, 7, 2, 3, 11, 0},
+    {"check-out", 5, 7, 2, 3, 0, 0},
+    {"check-out", 5, 7, 1, 3, 10, 0},
+    {"move in", 5, 9, 1, 3, 14, 0},
+    {"check-out", 5, 8, 1, 3, 0, 0},
+    {"check-out", 5, 9, 0, 3, 12, 0},
+    {"check-in", 5, 7, 0, 3, 0, 0},
+    {"delete of a copy", 5, 8, 1, 3, 0, 0},
+    {"move in", 5, 7, 1, 3, 0, 0},
+    {"move out", 5, 7, 1, 2, 13, 0},
+    {"move out", 5, 7, 1, 2, 16, 0},
+    {"move out", 5, 7, 1, 2, 0, 0},
+    {"record", 40, 7, 4, 1, 0, 0},
+    {"delete of a full entry", 40, 7, 4, 1, 0, 0},
+    {"delete of a full entry", 40, 7, 4, 1, 10, 0},
+};
+
+/* Refusals between calls that are done, on the tables of `before_refusals`. */
+static const struct step refusals[STEPS] = {
+    {"check-out", 5, 8, 14, 3, 4, 0},
+    {"check-in", 5, 7, 14, 3, 5, 0},
+    {"register", 6, 8, 14, 3, 6, 0},
+    {"perform", 5, 8, 14, 3, 3, 8},
+    {"check-in", 5, 7, 14, 3, 15, 0},
+    {"check-out", 5, 8, 14, 3, 0, 0},
+    {"check-in", 5, 7, 13, 3, 16, 0},
+    {"check-in", 5, 7, 13, 3, 0, 0},
+    {"move out", 40, 9, 4, 1, 13, 0},
+    {"perform", 5, 10, 14, 3, 3, 0},
+    {"delete of a full entry", 40, 9, 4, 1, 16, 0},
+    {"delete of a full entry", 40, 9, 4, 1, 0, 0},
+    {"register", 40, 9, 4, 1, 11, 0},
+    {"record", 64, 9, 4, 1, 0, 0},
+    {"perform", 5, 10, 14, 3, 3, TOP},
+    {"move in", 5, 10, 14, 3, 14, 0},
+};
+
+/* The steps of the basket that is lent. */
+static const struct step *steps;
+
+static const struct function *take_step(const struct step *s)
+{
+    const struct function *f = named(s->name);
+
+    set_arguments(64, s->c, s->j);
+    a.permits = s->permits;
+    a.rights = s->rights;
+    a.kind = s->kind;
+    if ((COUNTER_CONTENT_ID <= s->answer && s->answer <= COUNTER_FACTS) || s->answer == COUNTER_HASH ||
+        s->answer == COUNTER_FILLER)
+        meet(f, (unsigned)s->answer);
+    return f;
+}
+
+/* All steps stand in the basket; the first of them are to be previewed, on the tables as they are now. */
+static void lend_basket(const struct step *next, uint64_t next_count)
+{
+    steps = next;
+    count = next_count;
+    lend_scratch();
+    for (size_t i = 0; i < STEPS; i++) {
+        const struct function *f = take_step(&steps[i]);
+
+        put_request(i, request_of(f->request != 0 ? f->request : a.kind));
+    }
+}
+
+static void ready_preview(void) { lend_basket(a_title, STEPS); }
+
+/* Each step on what the one before it left. */
+static void after_preview(void)
+{
+    memset(wanted(&answers), 0, answers.length);
+    for (size_t i = 0; i < count; i++) {
+        const struct function *f = take_step(&steps[i]);
+
+        if (steps[i].answer == COUNTER_DONE)
+            f->after();
+        put_answer(i, steps[i].answer);
+        given_in_basket[pair][steps[i].answer]++;
+    }
+    to_scratch();
+}
+
+/* A preview that is done, and then a commit: it answers what was told, and the originals end as the scratch buffers did. */
+static void preview_and_commit(int line)
+{
+    check(line, named("preview"), COUNTER_DONE);
+    from_scratch();
+    for (size_t i = 0; i < count; i++) {
+        uint64_t told;
+
+        memcpy(&told, bytes(&answers) + i * sizeof told, sizeof told);
+        same(line, steps[i].name, "committed", counter_perform(pair, LEDGER, CARD, place(i)), told);
+    }
+    compare_each(line, "commit", tables_and_text);
+    compare_each(line, "commit", for_requests);
+}
+
+/* A title with a copy on the card and permits that are full, and another that is away. */
+static void before_refusals(void)
+{
+    fresh(64);
+    here(5, 14, 3);
+    title_half(7, 5);
+    plain_row(40, 2);
+    full(9, 40, 4, 1);
+}
+
+/* One of the originals, by the refusal that it meets, with a wrong length or head. */
+static void damage(unsigned number, unsigned how)
+{
+    struct buffer *b = originals[number - COUNTER_LEDGER];
+
+    switch (how) {
+    case 0: resize(b, b->length + 1); break;
+    case 1: resize(b, b->length - 1); break;
+    case 2: resize(b, 0); break;
+    case 3: put_byte(b, 3, 0x08); break; /* the low byte of R, or a version */
+    default: put(b, number == COUNTER_RULES ? 8 : 2, 2, 0x00ff); break; /* the application number, R, or a version */
+    }
+}
+
+/*
+ * Every count. Behind the requests stand the next steps, which could be done too, or anything. Too many are refused whatever
+ * else is wrong: the requests, the originals, or a scratch buffer.
+ */
+static void counts_of_requests(void)
+{
+    static const uint64_t too_many[] = {
+        17, 18, 32, 255, 256, 256 + 3, 65536 + 3, (uint64_t)1 << 32, ((uint64_t)1 << 32) + 3, (uint64_t)1 << 63, TOP,
+    };
+
+    for (uint64_t n = 0; n <= STEPS; n++)
+        for (unsigned anything = 0; anything < 2; anything++) {
+            size_t behind = n * sizeof(struct counter_request);
+
+            fresh(64);
+            lend_basket(a_title, n);
+            memset(wanted(&basket) + behind, 0xff, anything ? basket.length - behind : 0);
+            preview_and_commit(__LINE__);
+            before_refusals();
+            lend_basket(refusals, n);
+            memset(wanted(&basket) + behind, 0xff, anything ? basket.length - behind : 0);
+            preview_and_commit(__LINE__);
+        }
+    for (size_t k = 0; k < COUNT_OF(too_many); k++)
+        for (unsigned number = 0; number <= COUNTER_RULES; number++) {
+            fresh(64);
+            if (number >= COUNTER_LEDGER)
+                damage(number, 0);
+            lend_basket(a_title, too_many[k]);
+            memset(wanted(&basket), 0xff, number > 0 ? basket.length : 0);
+            CHECK(named("preview"), 17);
+            resize(&scratch_titles, 0);
+            CHECK(named("preview"), 17);
+        }
+}
+
+/* Scratch buffers as long as tables should be, beside an original that is not, and a basket in which nothing is right. */
+static void scratch_of_right_lengths(void)
+{
+    for (unsigned number = COUNTER_LEDGER; number <= COUNTER_RULES; number++)
+        for (unsigned how = 0; how < 3; how++) {
+            begin(named("preview"), 64, 5, 7);
+            damage(number, how);
+            CHECK(named("preview"), 18);
+            memset(wanted(&basket), 0xff, basket.length);
+            CHECK(named("preview"), 18);
+        }
+}
+
+/* Wrong lengths of each scratch buffer, and of two that are together as long as their originals. 17 comes before 18. */
+static void scratch_lengths(void)
+{
+    static const uint64_t counts[] = {0, 1, 16, 17, TOP};
+
+    for (size_t i = 0; i < 3; i++)
+        for (size_t k = 0; k < COUNT_OF(counts); k++)
+            for (size_t n = 0; n < 6; n++) {
+                struct buffer *b = scratch[i], *next = scratch[(i + 1) % 3];
+
+                begin(named("preview"), 64, 5, 7);
+                count = counts[k];
+                resize(b, (const size_t[]){0, 1, b->length - 1, b->length + 1, b->length + 32, next->length}[n]);
+                CHECK(named("preview"), counts[k] > STEPS ? 17 : 18);
+                begin(named("preview"), 64, 5, 7);
+                count = counts[k];
+                resize(b, b->length + n + 1);
+                resize(next, next->length - n - 1);
+                CHECK(named("preview"), counts[k] > STEPS ? 17 : 18);
+            }
+}
+
+/* A kind that is none before each step: it is answered 3 in its place, and the others what they are without it. */
+static void kinds_that_are_none(void)
+{
+    static const uint64_t none[] = {0, 8, 9, 255, 256 + 1, ((uint64_t)1 << 32) + 3, TOP};
+
+    for (size_t k = 0; k < COUNT_OF(none); k++) {
+        begin(named("perform"), 64, 5, 7);
+        a.kind = none[k];
+        CHECK(named("perform"), 3);
+        for (size_t at = 0; at < STEPS; at++) {
+            struct step more[STEPS];
+
+            memcpy(more, a_title, sizeof more);
+            memmove(more + at + 1, more + at, (STEPS - at - 1) * sizeof more[0]);
+            more[at].name = "perform";
+            more[at].answer = COUNTER_KIND;
+            more[at].kind = none[k];
+            fresh(64);
+            lend_basket(more, STEPS);
+            preview_and_commit(__LINE__);
+        }
+    }
+}
+
+/* Damage is no refusal of the preview: it answers each request that meets it, before what comes later in the order of tests. */
+static void previews_of_damaged(const struct step *undamaged, void (*before)(void))
+{
+    for (unsigned number = COUNTER_LEDGER; number <= COUNTER_RULES; number++)
+        for (unsigned how = 0; how < 5; how++) {
+            struct step met[STEPS];
+
+            memcpy(met, undamaged, sizeof met);
+            for (size_t i = 0; i < STEPS; i++)
+                if ((met[i].answer == COUNTER_DONE || met[i].answer > number) && refuses(named(met[i].name), number))
+                    met[i].answer = number;
+            before();
+            damage(number, how);
+            lend_basket(met, STEPS);
+            preview_and_commit(__LINE__);
+        }
+}
+
+static void fresh_64(void) { fresh(64); }
+
+static void baskets(void)
+{
+    counts_of_requests();
+    scratch_lengths();
+    scratch_of_right_lengths();
+    kinds_that_are_none();
+    previews_of_damaged(a_title, fresh_64);
+    previews_of_damaged(refusals, before_refusals);
+}
+
 /* ---------------------------------------------------------------- requests */
 
 /* Request bytes stand in the ledger's buffer, so that its guards hold them too; the numbers have guards of their own. */
@@ -1895,9 +2333,9 @@ static void faulty_numbers(void)
 /* What the texts are, host/till/constants.sh compares. */
 static void texts(void)
 {
-    for (uint64_t i = 0; i <= 16; i++)
-        same(__LINE__, "text", "differs", strcmp(counter_text(i), counter_text(17)) != 0, 1);
-    same(__LINE__, "text", "differs", strcmp(counter_text(17), counter_text(TOP)) != 0, 0);
+    for (uint64_t i = 0; i <= COUNTER_SCRATCH; i++)
+        same(__LINE__, "text", "differs", strcmp(counter_text(i), counter_text(COUNTER_SCRATCH + 1)) != 0, 1);
+    same(__LINE__, "text", "differs", strcmp(counter_text(COUNTER_SCRATCH + 1), counter_text(TOP)) != 0, 0);
 }
 
 /* All that is lent a ledger or a card, with tables of one pair. Answers the count of checks. */
@@ -1940,6 +2378,7 @@ static unsigned long all_with(bool next)
     tallies_of_kinds();
     a_history();
     sheets();
+    baskets();
     all_answers();
     return checks - before;
 }
@@ -1948,10 +2387,8 @@ int main(void)
 {
     unsigned long audio, picture;
 
-    make(&ledger);
-    make(&titles);
-    make(&rules);
-    make(&text);
+    each_of(tables_and_text, make);
+    each_of(for_requests, make);
     audio = all_with(COUNTER_AUDIO);
     picture = all_with(COUNTER_PICTURE);
     by_turns();

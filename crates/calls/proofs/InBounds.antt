@@ -92,9 +92,7 @@ pub in_bounds : (pair : Pair) (k : Request) (b : Buffers) → InBounds b (perfor
 in_bounds pair k b =
     let u = untouched pair k b in
     record {
-      ledger_length = u.rows.same_length;
-      titles_length = u.titles.same_length;
-      rules_length = u.rules.same_length;
+      same_lengths = record { ledger = u.rows.same_length; titles = u.titles.same_length; rules = u.rules.same_length };
       stay_bytes = λ bytes. either_way AreBytes (call_refused_first pair k b) bytes (λ none. effect_bytes b bytes k);
     }
 

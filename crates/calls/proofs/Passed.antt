@@ -275,7 +275,7 @@ answered_by {cs} s refuses e =
     }
 
 -- those of each call are
-in_step : (pair : Pair) (k : Request) (b : Buffers) → InStep (conditions pair k b) (needs_of pair k b)
+pub in_step : (pair : Pair) (k : Request) (b : Buffers) → InStep (conditions pair k b) (needs_of pair k b)
 unfolding conditions
 in_step pair (Register c f) b = tests_number c.0 then tests_facts f then tests_ledger b.ledger then tests_empty (state_at b c.0) then end
 in_step pair (Record c j f h) b =

@@ -2,7 +2,7 @@
 -- Assumes nothing.
 use Prim.Native.Nat.{ℕ, ◌≤◌}
 use mathlib.Core.Path.{◌≡◌, refl, sym, ap, subst, ◌∙◌}
-use mathlib.Core.Logic.{◌≢◌, inl, inr}
+use mathlib.Core.Logic.{◌≢◌, inl, inr, ⊎_elim}
 use mathlib.Core.List.{List, [], ◌∷◌, ◌++◌}
 use mathlib.Core.Bool.{Bool, true, false, not, ◌&&◌, ◌||◌, cond, true≢false}
 use native.Mathlib.Omega.{arith}
@@ -174,6 +174,30 @@ refused_first cs {answer} {before} {after} {made} numbers refuses e left =
       accepted = λ h. e ∙ of_none cs h;
       only_accepted = λ zero. to_none cs refuses (sym e ∙ zero);
       carried_out = λ zero. left ∙ ap (λ (x : Bool). cond x made before) (eq-eqb answer 0 zero);
+    }
+
+-- a condition that is tested before all others: it refuses, or leaves the answer to them
+pub in_front : {A : Type 0} {numbers : List ℕ} {cs : List Condition} {answer : ℕ} {before after made : A} (n : ℕ) (x : Bool) → n ≢ 0
+    → RefusedFirst A numbers cs answer before after made → RefusedFirst A (n ∷ numbers) ((n when x) ∷ cs) (cond x n answer) before (cond x before after) made
+in_front n true some d =
+    record {
+      checks = ap (λ (l : List ℕ). n ∷ l) d.checks;
+      refused = λ m other h. ⊎_elim (λ hit. hit.1) (λ later. absurd (true≢false later.0)) h;
+      only_refused = λ m other e. inl (refl, e);
+      unchanged = λ other. refl;
+      accepted = λ none. absurd (true≢false none.0);
+      only_accepted = λ zero. absurd (some zero);
+      carried_out = λ zero. absurd (some zero);
+    }
+in_front n false some d =
+    record {
+      checks = ap (λ (l : List ℕ). n ∷ l) d.checks;
+      refused = λ m other h. ⊎_elim (λ hit. absurd (true≢false (sym hit.0))) (λ later. d.refused m other later.1) h;
+      only_refused = λ m other e. inr (refl, d.only_refused m other e);
+      unchanged = d.unchanged;
+      accepted = λ none. d.accepted none.1;
+      only_accepted = λ zero. (refl, d.only_accepted zero);
+      carried_out = d.carried_out;
     }
 
 -- what holds of what was found, and of what is made where no condition holds, holds of what is left

@@ -81,7 +81,7 @@ arguments_refuse (a ∷ rest) s =
     (tested a (value_read (read_number s)) (arguments_conditions rest (bytes_after s (read_number s)))).refuses ∙ arguments_refuse rest (bytes_after s (read_number s))
 
 -- the kind
-pub kind_tested : (v : ℕ) (cs : List Condition) → first (kind_condition v ∷ cs) ≡ cond (eqb (kind_limit v) 0) (first cs) (kind_limit v)
+kind_tested : (v : ℕ) (cs : List Condition) → first (kind_condition v ∷ cs) ≡ cond (eqb (kind_limit v) 0) (first cs) (kind_limit v)
 unfolding first
 kind_tested v cs = one_limit (kind_passes v) 3 (λ e. omega arith) refl
 
@@ -217,20 +217,20 @@ module _ (q : Request) (out : List ℕ) where
   abbrev limits_tested : ValuesTested (schema (kind_of q)) (values_of q) (1 when short ∷ [])
   limits_tested = values_tested (schema (kind_of q)) (values_of q) (1 when short ∷ [])
 
-  pub writing_numbers_lem : numbers_of (writing_conditions q out) ≡ values_numbers (schema (kind_of q)) ++ (1 ∷ [])
+  writing_numbers_lem : numbers_of (writing_conditions q out) ≡ values_numbers (schema (kind_of q)) ++ (1 ∷ [])
   unfolding writing_conditions
   writing_numbers_lem = limits_tested.numbers (values_size q)
 
-  pub writing_refuses : refusing (writing_conditions q out) ≡ true
+  writing_refuses : refusing (writing_conditions q out) ≡ true
   unfolding writing_conditions
   writing_refuses = limits_tested.refuses
 
   -- what it answers and leaves by them
-  pub writing_answer : (written_answer (writing_request q out)).number ≡ first (writing_conditions q out)
+  writing_answer : (written_answer (writing_request q out)).number ≡ first (writing_conditions q out)
   unfolding writing_conditions writing_request writing limit_of first
   writing_answer = (outcome (limit_of q) short).number ∙ sym limits_tested.answer
 
-  pub writing_left : request_written_to q out ≡ cond (eqb (written_answer (writing_request q out)).number 0) (put out 0 (written q)) out
+  writing_left : request_written_to q out ≡ cond (eqb (written_answer (writing_request q out)).number 0) (put out 0 (written q)) out
   unfolding writing_request request_written_to writing written_to
   writing_left =
       let o = outcome (limit_of q) short in

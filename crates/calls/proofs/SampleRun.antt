@@ -4,7 +4,7 @@
 use Prim.Native.Nat.{ℕ, ◌≤◌}
 use mathlib.Core.Path.{◌≡◌, refl, sym, ap, ap₂, ◌∙◌}
 use mathlib.Core.Logic.{◌≢◌, ◌⊎◌, inl, inr}
-use mathlib.Core.List.{List, [], ◌∷◌, ◌++◌, map, append-nil, append_assoc}
+use mathlib.Core.List.{List, [], ◌∷◌}
 use mathlib.Core.Option.{some}
 use native.Mathlib.Omega.{arith}
 use native.Mathlib.Decide.{ℕ_discrete}
@@ -18,7 +18,7 @@ use Rattle.requests.specs.declared.request.Request.{Request}
 use Rattle.calls.specs.Buffers.{Buffers, title_at, rule_at, state_at, row_facts, here_facts, kind_at, content_at, facts_at, title_key_at, sti_key_at, fresh, Within}
 use Rattle.calls.specs.Count.{one_less, one_more}
 use Rattle.calls.specs.Perform.{perform, AreBytes}
-use Rattle.calls.specs.History.{Answered, Log, Run, next, run, from, in_order, answers}
+use Rattle.calls.specs.History.{run, in_order, answers}
 use Rattle.calls.specs.Needs.{FactsInRange, MayMove, Needs}
 use Rattle.calls.specs.Untouched.{title_written}
 use Rattle.calls.specs.Work.{RowIs, Recounted, PermitsBecome, FullEntry}
@@ -30,6 +30,7 @@ use Rattle.calls.proofs.Passed.{found}
 use Rattle.calls.proofs.Views.{row_else, kind_else}
 use Rattle.calls.proofs.Untouched.{untouched, rule_with_title, heads_kept}
 use Rattle.calls.proofs.InBounds.{in_bounds}
+use Rattle.calls.proofs.InTurn.{answers_next}
 use Rattle.calls.proofs.Done.{work_is_done}
 use Rattle.calls.proofs.Fresh.{fresh_empty, fresh_free, fresh_bytes, fresh_heads}
 
@@ -134,20 +135,7 @@ record Goes (pair : Pair) (k : Request) (b : Buffers) (P : Buffers → Type 0) :
   done : (perform pair k b).answer ≡ 0
   after : P (perform pair k b).buffers
 
--- answers one after another: those of the rest come after the first
-in_turn : (pair : Pair) (ks : List Request) (w : Run) → in_order (run pair ks w).log ≡ in_order w.log ++ in_order (run pair ks (from w.buffers)).log
-unfolding run in_order
-in_turn pair [] w = sym (append-nil _)
-in_turn pair (k ∷ ks) w =
-    in_turn pair ks (next pair k w)
-    ∙ append_assoc (in_order w.log) _ _
-    ∙ ap (λ (l : Log). in_order w.log ++ l) (sym (in_turn pair ks (next pair k (from w.buffers))))
-
-answers_next : (pair : Pair) (k : Request) (ks : List Request) (b : Buffers) → answers pair (k ∷ ks) b ≡ (perform pair k b).answer ∷ answers pair ks (perform pair k b).buffers
-unfolding run in_order
-answers_next pair k ks b = ap (map (λ (a : Answered). a.answer)) (in_turn pair ks (next pair k (from b)))
-
--- and so are those after it
+-- the call is done, and so are those after it
 on : (pair : Pair) (k : Request) (ks : List Request) (b : Buffers) {P : Buffers → Type 0} {ns : List ℕ} → Goes pair k b P → ((c : Buffers) → P c → answers pair ks c ≡ ns) → answers pair (k ∷ ks) b ≡ 0 ∷ ns
 on pair k ks b g rest = answers_next pair k ks b ∙ ap₂ (λ (x : ℕ) (l : List ℕ). x ∷ l) g.done (rest (perform pair k b).buffers g.after)
 

@@ -14,3 +14,5 @@ pub mod Untouched
 pub mod Work
 pub mod Pairs
 pub mod Report
+pub mod Preview
+pub mod Session

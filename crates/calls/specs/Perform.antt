@@ -38,11 +38,15 @@ pub record AreBytes (b : Buffers) : Type 0 where
   pub titles : Bytes b.titles
   pub rules : Bytes b.rules
 
+-- each of three buffers is as long as that of three others
+pub record SameLengths (b other : Buffers) : Type 0 where
+  pub ledger : length other.ledger ≡ length b.ledger
+  pub titles : length other.titles ≡ length b.titles
+  pub rules : length other.rules ≡ length b.rules
+
 -- "and each one ends in bounds": every buffer keeps its length, and what holds bytes holds bytes
 pub record InBounds (b after : Buffers) : Type 0 where
-  pub ledger_length : length after.ledger ≡ length b.ledger
-  pub titles_length : length after.titles ≡ length b.titles
-  pub rules_length : length after.rules ≡ length b.rules
+  pub same_lengths : SameLengths b after
   pub stay_bytes : AreBytes b → AreBytes after
 
 -- DEMAND 1, of every call on tables of either pair and on all buffers, damaged ones included

@@ -13,9 +13,9 @@ use Rattle.io.specs.Counts.{IsPrefixLen}
 use Rattle.formats.specs.Part.{put}
 use Rattle.formats.specs.declared.head.Pair.{Pair}
 use Rattle.formats.specs.declared.head.Pair.TheVariants.{Audio}
-use Rattle.formats.specs.Refusal.{number_of, answer_number}
+use Rattle.formats.specs.Refusal.{answer_number}
 use Rattle.formats.specs.declared.refusal.Refusal.{Refusal}
-use Rattle.formats.specs.declared.refusal.Refusal.TheVariants.{TooShort, Number, Kind, ContentId, EntryNumber, Facts, Ledger, Titles, Rules, KindOfEntry, StateOfRow, NothingLeft, Hash, CopyOut, PermitsFull, Filler}
+use Rattle.formats.proofs.refusal.Laws.{number_most}
 use Rattle.formats.proofs.Part.{put_next, put_length}
 use Rattle.formats.proofs.Stores.{Storing, start, stored}
 use Rattle.requests.specs.Request.{RequestRead, Read, Refused, read_request, kind_of}
@@ -88,33 +88,10 @@ end_fields stop = refl
 pub end_start : (stop : ℕ) (out : List ℕ) (at : ℕ) → Storing (end_line stop) out at out at (end_word ++ field stop 10)
 end_start stop out at = subst (Storing (end_line stop) out at out at) (end_fields stop) (start (end_line stop) out at)
 
--- the number of a refusal has at most two digits
-number_most : (w : Refusal) → number_of w ≤ 16
-number_most TooShort = omega arith
-number_most Number = omega arith
-number_most Kind = omega arith
-number_most ContentId = omega arith
-number_most EntryNumber = omega arith
-number_most Facts = omega arith
-number_most Ledger = omega arith
-number_most Titles = omega arith
-number_most Rules = omega arith
-number_most KindOfEntry = omega arith
-number_most StateOfRow = omega arith
-number_most NothingLeft = omega arith
-number_most Hash = omega arith
-number_most CopyOut = omega arith
-number_most PermitsFull = omega arith
-number_most Filler = omega arith
-
-stop_most : {A : Type 0} (stop : Result A Refusal) → answer_number stop ≤ 16
-stop_most (Ok a) = omega arith
-stop_most (Err w) = number_most w
-
 end_most : {A : Type 0} (stop : Result A Refusal) → length (end_line (answer_number stop)) ≤ 7
 end_most stop =
     let n = answer_number stop in
-    let digits = length_most 1 n (omega (arith, stop_most stop)) in
+    let digits = length_most 1 n (omega (arith, number_most stop)) in
     omega (arith, ap length (end_fields n), length-append end_word (field n 10), field_length n 10)
 
 -- HOW MANY REQUESTS THERE ARE: no more than bytes

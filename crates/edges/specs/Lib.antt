@@ -1,1 +1,2 @@
+pub mod Baskets
 pub mod Cases

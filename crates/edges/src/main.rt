@@ -33,6 +33,12 @@
 //   32  requests, served as 05, and then a move in: content ID, entry number, which tables it is lent but for their last byte (1 the
 //       ledger, 2 the titles, 4 the rules, added up); its answer, and how many entries its check for copies read
 //   33  the same, on a card of pictures
+//   34  requests, served as 05, and then a preview: how many bytes of the part these requests are, count, which buffers are lent but for
+//       their last byte (1, 2, 4 the scratch ledger, titles and rules, 8, 16, 32 the originals, added up). The bytes behind the requests
+//       are the basket, with title 4 registered in each place for which no request is left. Its answer, the places for answers (99
+//       stood there), rows and entries 1 to 4 of the scratch, how many of its bytes are EE, as all were before, and rows and entries
+//       of the originals; and then the answers of the basket up to the count, committed, and rows and entries
+//   35  the same, on a card of pictures
 //   38  write a title half: CCI, key, content ID
 //   39  write what both halves have in common: byte 0, key, content ID
 //   3A  write a number in decimal digits at a place of a text: value, the byte that ends it, place; the place behind it
@@ -43,6 +49,7 @@
 // A writer's answer ends with its part afterwards, in brackets.
 #![tactic(auto)]
 
+mod baskets;
 mod print;
 mod readers;
 mod texts;

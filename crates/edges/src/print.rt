@@ -1,6 +1,7 @@
 // The line of a case, and the parts of its answer.
-use formats::refusal;
 use formats::refusal::Refusal;
+use formats::{refusal, table};
+use tables::shop::Shop;
 
 pub fn line(s: &[u8]) {
     io::write_all(1, s);
@@ -36,4 +37,11 @@ pub fn bytes(s: &[u8]) {
         io::print_hex(1, u64::from(*x), 2);
     }
     io::write_all(1, b"]");
+}
+
+// Rows and entries 1 to 4.
+pub fn shop(shop: Shop) {
+    bytes(table::part(shop.ledger, 24, 96));
+    bytes(table::part(shop.card.titles, 16, 64));
+    bytes(table::part(shop.card.rules, 32, 128));
 }

@@ -3,7 +3,7 @@ ghost use Rattle.calls.specs.Buffers.{buffers_of, fresh};
 ghost use Rattle.music_counter.specs.Serve.{Serves};
 
 use crate::writers::{Call, Numbers};
-use crate::{print, writers};
+use crate::{baskets, print, writers};
 use closing_sheet::sheet;
 use formats::entry::{Entry, EntryKind};
 use formats::facts::{ContentId, EntryNumber, Facts};
@@ -44,6 +44,8 @@ pub fn show(call: Call, case: &[u8], part: &[u8]) {
         0x31 => closing(v[0], v[1] as usize, v[2] as usize, part),
         0x32 => moved_in(Pair::Audio, v, part),
         0x33 => moved_in(Pair::Picture, v, part),
+        0x34 => baskets::previewed(Pair::Audio, v, part),
+        0x35 => baskets::previewed(Pair::Picture, v, part),
         code => written(code, part),
     }
 }
@@ -167,7 +169,7 @@ fn search(c: u64, titles_len: usize, part: &[u8]) {
 }
 
 // Serves requests on a ledger of 4 rows and a card that are formatted for them.
-fn served(
+pub fn served(
     pair: Pair,
     ledger: &mut [u8; 120],
     titles: &mut [u8; 16000],
@@ -232,7 +234,5 @@ fn stream(pair: Pair, requests: &[u8]) {
     for number in kinds.chain(notes.iter().map(|note| note.answer)) {
         print::number(number);
     }
-    print::bytes(table::part(&ledger, 24, 96));
-    print::bytes(table::part(&titles, 16, 64));
-    print::bytes(table::part(&rules, 32, 128));
+    print::shop(Shop::new(&ledger, &titles, &rules));
 }

@@ -2,7 +2,7 @@
 use Rattle.std.specs.Prelude.{ℕ, List, [], Bool, true, false, Result, Ok, Err}
 use Rattle.formats.specs.Answer.{Answer, case}
 use Rattle.formats.specs.declared.refusal.Refusal.{Refusal}
-use Rattle.formats.specs.declared.refusal.Refusal.TheVariants.{TooShort, Number, Kind, ContentId, EntryNumber, Facts, Ledger, Titles, Rules, KindOfEntry, StateOfRow, NothingLeft, Hash, CopyOut, PermitsFull, Filler}
+use Rattle.formats.specs.declared.refusal.Refusal.TheVariants.{TooShort, Number, Kind, ContentId, EntryNumber, Facts, Ledger, Titles, Rules, KindOfEntry, StateOfRow, NothingLeft, Hash, CopyOut, PermitsFull, Filler, Basket, Scratch}
 
 -- the paper's number of a refusal
 abbrev pub number_of : Refusal → ℕ
@@ -22,6 +22,8 @@ number_of Hash = 13
 number_of CopyOut = 14
 number_of PermitsFull = 15
 number_of Filler = 16
+number_of Basket = 17
+number_of Scratch = 18
 
 -- "Done is 0": the number that stands for an answer
 abbrev pub answer_number : {A : Type 0} → Result A Refusal → ℕ

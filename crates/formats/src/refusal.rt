@@ -36,6 +36,10 @@ pub enum Refusal {
     PermitsFull = 15,
     // A filler would leave a key in place.
     Filler = 16,
+    // More than 16 requests in a basket.
+    Basket = 17,
+    // A scratch buffer whose length is not its original's.
+    Scratch = 18,
 }
 
 impl From<Refusal> for u64 {

@@ -17,7 +17,6 @@ use Rattle.requests.proofs.request.Laws.{request_form, same_reading}
 use Rattle.calls.specs.Buffers.{Buffers}
 use Rattle.calls.specs.Perform.{Performed, perform}
 use Rattle.calls.specs.History.{Answered, Log, Run, run, in_order}
-use Rattle.calls.proofs.InBounds.{in_bounds}
 use Rattle.music_counter.specs.Answer.{Answers}
 use Rattle.music_counter.specs.declared.serve.Note.{Note}
 use Rattle.music_counter.specs.Serve.{Stream, further, read_stream, stream_of, served_run, note_of, notes_in, overwritten, Serves}
@@ -117,9 +116,6 @@ pub record Serving (pair : Pair) (s : List ℕ) (before : Buffers) (notes : List
   pub count_is : count ≡ length log
   pub at_most : count + length rest ≤ length s
   pub noted : Noted notes log notes'
-  pub ledger_length : length b.ledger ≡ length before.ledger
-  pub titles_length : length b.titles ≡ length before.titles
-  pub rules_length : length b.rules ≡ length before.rules
 
 pub start : (pair : Pair) (s : List ℕ) (b : Buffers) (notes : List Note) → Serving pair s b notes s b notes 0
 unfolding in_order
@@ -132,9 +128,6 @@ start pair s b notes =
       count_is = refl;
       at_most = omega arith;
       noted = record { are = sym (none_over notes); same_length = refl };
-      ledger_length = refl;
-      titles_length = refl;
-      rules_length = refl;
     }
 
 module _ {pair : Pair} {s : List ℕ} {before : Buffers} {notes : List Note} {rest : List ℕ} {b : Buffers} {notes' : List Note} {count : ℕ}
@@ -188,7 +181,6 @@ module _ {pair : Pair} {s : List ℕ} {before : Buffers} {notes : List Note} {re
         unfolding run
         served {kind} {answer} made kind_is wrote =
             let next = stream_next rest as_read in
-            let kept = in_bounds pair q.value b in
             let line : Answered = record { call = q.value; answer = (perform pair q.value b).answer } in
             let answer-is = ap (λ (p : Performed). p.answer) made in
             rw (after-it, ap (λ (p : Performed). p.buffers) made)
@@ -201,7 +193,4 @@ module _ {pair : Pair} {s : List ℕ} {before : Buffers} {notes : List Note} {re
               at_most = omega (arith, shorter rest as_read, r.at_most);
               noted = note_next r.noted line r.count_is
                   (wrote ∙ ap₂ (λ (k a : ℕ). set notes' count (record { kind = k; answer = a })) kind_is answer-is);
-              ledger_length = kept.ledger_length ∙ r.ledger_length;
-              titles_length = kept.titles_length ∙ r.titles_length;
-              rules_length = kept.rules_length ∙ r.rules_length;
             })

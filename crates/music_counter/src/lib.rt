@@ -21,6 +21,7 @@ pub mod check_out;
 pub mod delete;
 pub mod move_in;
 pub mod move_out;
+pub mod preview;
 pub mod record;
 pub mod register;
 pub mod serve;

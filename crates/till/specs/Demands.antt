@@ -18,6 +18,8 @@ use Rattle.calls.specs.Fresh.{RowsByNumber, FreshIsReady}
 use Rattle.calls.specs.Examples.{TenExamples, OneGeneration}
 use Rattle.calls.specs.SampleRun.{SampleRun, EveryCallDone}
 use Rattle.calls.specs.History.{History}
+use Rattle.calls.specs.Preview.{Demand1Preview}
+use Rattle.calls.specs.Session.{PreviewsInLists}
 use Rattle.tables.specs.Demand1.{Demand1Tables}
 use Rattle.tables.specs.History.{FormattedHistory}
 use Rattle.text.specs.Forms.{DecimalForm}
@@ -61,6 +63,8 @@ pub record Demand1 : Type 0 where
   pub requests : Demand1Requests
   pub numbers : NumberRefused
   pub till_writes : (kind : ℕ) (arguments out : List ℕ) → WritesNumbers kind arguments out
+  -- previews, and requests that a till gives in numbers
+  pub preview : Demand1Preview
 
 -- 2: "entries, tables, ledger and requests are read and written byte for byte as the papers say; each request has one written form,
 -- and reading it back yields that request", and what is in the paper to compare with
@@ -78,12 +82,13 @@ pub record Demand2 : Type 0 where
   pub decimal_form : DecimalForm
   pub sheet_shows : SheetShows
 
--- 3: one claim about every list of calls from a fresh ledger and card; of what formatting leaves; of every stream that is served; and
--- that by it the numbers on the sheet add up
+-- 3: one claim about every list of calls from a fresh ledger and card; of what formatting leaves; of every stream that is served; with
+-- previews between the calls, which are none, and what is committed as it was previewed; and that by it the numbers on the sheet add up
 pub record Demand3 : Type 0 where
   pub history : History
   pub formatted : FormattedHistory
   pub served : ServedHistory
+  pub previews : PreviewsInLists
   pub sheet_adds_up : SheetAddsUp
 
 pub record Demands : Type 0 where

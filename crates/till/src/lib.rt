@@ -1,11 +1,14 @@
-// What a till written in C calls: formatting, the seven calls, the tally, the closing sheet, and reading and writing requests, over
-// its own buffers, plain numbers and a bool for the pair. Formatting and the calls hand on what they are given, as the types that the
-// calls take. Move in, tally, sheet, reading and writing also put numbers into the places that they are lent, and writing tests the kind,
-// which in C is any number. What travels together below stands in parameters of its own here, and answers are numbers, since C has them so.
-// include/music_counter.h has the same thirteen in C.
+// What a till written in C calls: formatting, the seven calls, the tally, the closing sheet, and reading, writing, performing and
+// previewing requests, over its own buffers, plain numbers and a bool for the pair. Formatting, the calls and preview hand on what they
+// are given, as the types that those below take. Performing a request goes to the C function of its kind. Move in, tally, sheet, reading
+// and writing also put numbers into the places that they are lent. A request is given as a kind and arguments, and a kind is any number
+// in C. What travels together below stands in parameters of its own here, and answers are numbers, since C has them so.
+// include/music_counter.h has the same fifteen in C.
 #![tactic(auto)]
 
-ghost use Rattle.std.specs.Prelude.{◌≡◌};
+pub mod given;
+
+ghost use Rattle.std.specs.Prelude.{◌≡◌, map};
 ghost use Rattle.std.specs.Result.{result_unwrap_or};
 ghost use Rattle.formats.specs.Refusal.{answer_number};
 ghost use Rattle.requests.specs.declared.request.Request.TheVariants.{Register, Record, CheckOut, CheckIn, MoveOut, MoveIn, Delete};
@@ -15,7 +18,8 @@ ghost use Rattle.tables.specs.Format.{ledger_formatting, formatted_ledger, card_
 ghost use Rattle.tables.specs.Tally.{tallied};
 ghost use Rattle.closing_sheet.specs.Sheet.{sheet_writing, sheet_written_to};
 ghost use Rattle.music_counter.specs.Answer.{Answers, AnswersByLedger};
-ghost use Rattle.till.specs.Given.{pair_of, title, place, facts, fillers};
+ghost use Rattle.music_counter.specs.Preview.{AnswersGiven, AnswersPreview};
+ghost use Rattle.till.specs.Given.{pair_of, request_given, title, place, facts, fillers};
 ghost use Rattle.till.specs.Tally.{copies_after};
 ghost use Rattle.requests.specs.Number.{written_answer};
 ghost use Rattle.requests.specs.Request.{read_request, request_answer};
@@ -23,12 +27,14 @@ ghost use Rattle.till.specs.Demands.{Demands};
 ghost use Rattle.requests.specs.Values.{kind_after, values_after, writing_numbers, numbers_written_to};
 ghost use Rattle.till.specs.Requests.{used_after, count_after};
 
+use crate::given::CounterRequest;
 use closing_sheet::sheet;
 use formats::facts::{ContentId, EntryNumber, Facts, Fillers};
 use formats::head::Pair;
 use formats::refusal;
 use formats::refusal::Refusal;
-use music_counter::{check_in, check_out, delete, move_in, move_out, record, register};
+use music_counter::preview::Given;
+use music_counter::{check_in, check_out, delete, move_in, move_out, preview, record, register};
 use requests::request;
 use tables::card::Card;
 use tables::shop::Shop;
@@ -359,4 +365,51 @@ pub extern "C" fn counter_write_request(
         ≡ count_after (writing_numbers kind arguments.now bytes.old) used.old }
 {
     tell(request::write_numbers(kind, arguments, bytes), used)
+}
+
+// Answers 3 with nothing changed where the kind is none, else what the call answers.
+#[unsafe(no_mangle)]
+pub extern "C" fn counter_perform(
+    pair: bool,
+    ledger: &mut [u8],
+    titles: &mut [u8],
+    rules: &mut [u8],
+    request: &CounterRequest,
+) -> u64
+    ensures { AnswersGiven (pair_of pair) (request_given request.now)
+        (buffers_of ledger.old titles.old rules.old) result
+        (buffers_of ledger.new titles.new rules.new) }
+{
+    request.perform(pair_of(pair), ledger, titles, rules)
+}
+
+// Answers 0, or 17 or 18 with nothing changed.
+#[unsafe(no_mangle)]
+pub extern "C" fn counter_preview(
+    pair: bool,
+    ledger: &[u8],
+    titles: &[u8],
+    rules: &[u8],
+    scratch_ledger: &mut [u8],
+    scratch_titles: &mut [u8],
+    scratch_rules: &mut [u8],
+    basket: &[CounterRequest; 16],
+    count: u64,
+    answers: &mut [u64; 16],
+) -> u64
+    ensures { AnswersPreview (pair_of pair) (map request_given basket.now) count (buffers_of ledger.now titles.now rules.now)
+        (buffers_of scratch_ledger.old scratch_titles.old scratch_rules.old) answers.old result
+        (buffers_of scratch_ledger.new scratch_titles.new scratch_rules.new) answers.new }
+{
+    let answer = preview::preview(
+        pair_of(pair),
+        Shop::new(ledger, titles, rules),
+        scratch_ledger,
+        scratch_titles,
+        scratch_rules,
+        basket,
+        count,
+        answers,
+    );
+    refusal::number(answer)
 }

@@ -15,7 +15,7 @@ use Rattle.requests.specs.Number.{groups}
 use Rattle.requests.specs.Request.{limit, schema, numbers, first_limit}
 use Rattle.formats.specs.Refusal.{number_of}
 use Rattle.formats.specs.declared.refusal.Refusal.{Refusal}
-use Rattle.requests.proofs.Refusals.{refusal_positive}
+use Rattle.formats.proofs.refusal.Laws.{numbered}
 use Rattle.requests.specs.Values.{written_numbers}
 use Rattle.requests.specs.declared.request.Argument.{Argument}
 use Rattle.formats.specs.Part.{put}
@@ -88,7 +88,7 @@ module _ {sch : List Argument} {vs : List ℕ} {n : ℕ} (inv : first_limit sch 
     pub limit_met : (w : Refusal) → number_of w ≡ limit a v → number_of w ≡ n
     unfolding first_limit
     limit_met w e =
-        e ∙ sym (ap₂ first_limit next.0 next.1 ∙ simp (ne_eqb (limit a v) 0 (λ z. omega (arith, refusal_positive w)))) ∙ inv
+        e ∙ sym (ap₂ first_limit next.0 next.1 ∙ simp (ne_eqb (limit a v) 0 (λ z. omega (arith, (numbered w).from)))) ∙ inv
 
   pub limit_none : (sch ≡ []) ⊎ (vs ≡ []) → 0 ≡ n
   limit_none e = none_left sch vs e ∙ inv

@@ -15,7 +15,7 @@ use Rattle.requests.specs.declared.request.Argument.TheVariants.{Content}
 use Rattle.formats.specs.Answer.{Answer, done, refused}
 use Rattle.formats.specs.Refusal.{number_of}
 use Rattle.formats.specs.declared.refusal.Refusal.{Refusal}
-use Rattle.requests.proofs.Refusals.{refusal_positive}
+use Rattle.formats.proofs.refusal.Laws.{numbered}
 use Rattle.formats.proofs.Zeros.{zeros_behind}
 use Rattle.requests.proofs.number.Laws.{read_within, same_number}
 use Rattle.requests.proofs.request.Cases.{argument_refused, argument_limit, argument_value, kind_value}
@@ -79,7 +79,7 @@ module _ {kind : ℕ} {s values : List ℕ} {i used : ℕ} (inv : Taking kind s 
 
   module _ {v k : ℕ} (e : read_number (drop used s) ≡ Number v k) where
     pub past_limit : (w : Refusal) → number_of w ≡ limit (get_or (schema kind) i Content) v → RequestRefused (number_of w) ≡ read_request s
-    past_limit w l = ap RequestRefused l ∙ sym (goes (argument_limit _ _ (drop used s) e (λ z. omega (arith, refusal_positive w))))
+    past_limit w l = ap RequestRefused l ∙ sym (goes (argument_limit _ _ (drop used s) e (λ z. omega (arith, (numbered w).from))))
 
     pub taken : length (schema kind) ≤ 9 → 0 ≡ limit (get_or (schema kind) i Content) v → Taking kind s (set values i v) (i + 1) (used + k)
     taken few l =
@@ -120,19 +120,19 @@ all_read {kind} {s = s} {values = values} {i = i} {used = used} inv few end =
     ∙ ap (λ (l : List Argument). as_request kind 0 (after (take i values) used (read_arguments l (drop used s)))) (drop_of_length-le (schema kind) (omega (arith, end)))
     ∙ ap₂ (λ (vs : List ℕ) (n : ℕ). Read (request_of kind vs) n) (append-nil (take i values)) (let z : 0 + (used + 0) ≡ used = omega arith in z) in
     let q = made_of {k = kind} (take i values) inv.passes (size ∙ end) in
-    let f : filled (take i values) ≡ values = rw size (ap (λ (l : List ℕ). take i values ++ l) (sym inv.zeros) ∙ take-append-drop i values) in
+    let f : filled 9 (take i values) ≡ values = rw size (ap (λ (l : List ℕ). take i values ++ l) (sym inv.zeros) ∙ take-append-drop i values) in
     rw e
     (record {
       answer_is = refl;
       kind_is = sym q.kind_is;
-      values_are = sym (ap filled q.values_are ∙ f);
+      values_are = sym (ap (filled 9) q.values_are ∙ f);
     })
 
-get_or_filled : (vs : List ℕ) (i : ℕ) → get_or (filled vs) i 0 ≡ get_or vs i 0
+get_or_filled : (vs : List ℕ) (i : ℕ) → get_or (filled 9 vs) i 0 ≡ get_or vs i 0
 unfolding filled
 get_or_filled vs i = zeros_behind vs (9 - length vs) i
 
 -- the values in nine places make the same request
-pub filled_request : (kind : ℕ) (vs : List ℕ) → request_of kind (filled vs) ≡ request_of kind vs
+pub filled_request : (kind : ℕ) (vs : List ℕ) → request_of kind (filled 9 vs) ≡ request_of kind vs
 unfolding request_of
 filled_request kind vs = simp (get_or_filled vs)

@@ -7,7 +7,7 @@ use Rattle.requests.specs.Number.{Number, Refused as NoNumber, count_values}
 use Rattle.requests.specs.Request.{Refused}
 use Rattle.requests.proofs.number.Laws.{same_number, read_within}
 use Rattle.requests.proofs.request.Cases.{kind_refused, kind_limit_lem}
-use Rattle.requests.proofs.Refusals.{refusal_positive}
+use Rattle.formats.proofs.refusal.Laws.{numbered}
 use Rattle.requests.proofs.request.Loops.{schema_size}
 use Rattle.requests.proofs.request.Reading.{found, kind_taken, no_number, past_limit, taken, all_read, told_refused}
 use Rattle.requests.proofs.request.read_numbers.Goals as goal
@@ -27,7 +27,7 @@ returns-in_err-kind_limit c =
     let t =
     told_refused {kind₀ = c.args.kind.now} {values₀ = c.args.values.now}
     (ap Refused c.in_err-kind_limit.ensures
-    ∙ sym (kind_limit_lem c.args.s.now (sym (same_number {r = Number k.value k.len} c.in_ok-first.ensures)) (λ z. omega (arith, refusal_positive w)))) in
+    ∙ sym (kind_limit_lem c.args.s.now (sym (same_number {r = Number k.value k.len} c.in_ok-first.ensures)) (λ z. omega (arith, (numbered w).from)))) in
     record { answer = e ∙ t.answer_is; kind_told = t.kind_is; values_told = t.values_are }
 
 pub loop-i-init : goal.loop-i-init

@@ -7,7 +7,7 @@ use Rattle.formats.specs.Refusal.{number_of, answer_of}
 use Rattle.requests.specs.Number.{count_values}
 use Rattle.requests.specs.Request.{schema}
 use Rattle.requests.specs.Values.{written_numbers}
-use Rattle.requests.proofs.Refusals.{refusal_positive}
+use Rattle.formats.proofs.refusal.Laws.{numbered}
 use Rattle.requests.proofs.request.Loops.{schema_size}
 use Rattle.requests.proofs.request.AsNumbers.{kind_past, value_past, numbers_no_room, numbers_all_written}
 use Rattle.requests.proofs.request.write_numbers.Goals as goal
@@ -15,7 +15,7 @@ use Rattle.requests.proofs.request.write_numbers.Goals as goal
 pub returns-in_err-kind_limit : goal.returns-in_err-kind_limit
 returns-in_err-kind_limit c =
     let w = c.in_err-kind_limit.field-0.0 in
-    let p = kind_past c.args.kind c.args.values.now c.args.out.now c.in_err-kind_limit.ensures (λ z. omega (arith, refusal_positive w)) in
+    let p = kind_past c.args.kind c.args.values.now c.args.out.now c.in_err-kind_limit.ensures (λ z. omega (arith, (numbered w).from)) in
     let e : answer_of count_values c.from_residual.result ≡ refused (number_of w) = search rules in
     record { answer = e ∙ p.0; bytes = p.1 }
 
@@ -23,7 +23,7 @@ pub returns-in_err-limit : goal.returns-in_err-limit
 returns-in_err-limit c =
     let w = c.in_err-limit.field-0.0 in
     let nine : length (schema c.args.kind) ≤ length c.args.values.now = omega (arith, schema_size c.args.kind) in
-    let p = value_past c.args.kind c.args.values.now (sym c.in_ok-kind_limit.ensures) nine c.args.out.now c.in_err-limit.ensures (λ z. omega (arith, refusal_positive w)) in
+    let p = value_past c.args.kind c.args.values.now (sym c.in_ok-kind_limit.ensures) nine c.args.out.now c.in_err-limit.ensures (λ z. omega (arith, (numbered w).from)) in
     let e : answer_of count_values c.from_residual-in_err-limit.result ≡ refused (number_of w) = search rules in
     record { answer = e ∙ p.0; bytes = p.1 }
 
