@@ -15,4 +15,4 @@ pub mod Work
 pub mod Pairs
 pub mod Report
 pub mod Preview
-pub mod Session
+pub mod Steps

@@ -23,7 +23,7 @@ use Rattle.calls.proofs.Requests.{demand_1_requests}
 use Rattle.calls.proofs.Done.{work_is_done, register_by_ledger, gone_stays}
 use Rattle.calls.proofs.Report.{move_in_reports}
 use Rattle.calls.proofs.Preview.{demand_1_preview}
-use Rattle.calls.proofs.Session.{previews_in_lists}
+use Rattle.calls.proofs.Steps.{previews_in_lists}
 use Rattle.calls.proofs.Pairs.{of_other_pair, picture_by_f1}
 use Rattle.calls.proofs.Fresh.{rows_by_number, fresh_is_ready}
 use Rattle.calls.proofs.Examples.{ten_examples, one_generation}

@@ -19,7 +19,7 @@ use Rattle.calls.specs.Examples.{TenExamples, OneGeneration}
 use Rattle.calls.specs.SampleRun.{SampleRun, EveryCallDone}
 use Rattle.calls.specs.History.{History}
 use Rattle.calls.specs.Preview.{Demand1Preview}
-use Rattle.calls.specs.Session.{PreviewsInLists}
+use Rattle.calls.specs.Steps.{PreviewsInLists}
 use Rattle.tables.specs.Demand1.{Demand1Tables}
 use Rattle.tables.specs.History.{FormattedHistory}
 use Rattle.text.specs.Forms.{DecimalForm}

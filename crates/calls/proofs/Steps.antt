@@ -13,7 +13,7 @@ use Rattle.calls.specs.Buffers.{Buffers}
 use Rattle.calls.specs.Perform.{perform}
 use Rattle.calls.specs.History.{Run, next, run, from, start, in_order, After}
 use Rattle.calls.specs.Preview.{perform_given, answered, perform_all, Previewed, preview}
-use Rattle.calls.specs.Session.{Step, commits, previews, Session, commit, step, session, opened, calls_of, NoCallInHistory, CallsAlone, HistoryWithPreviews, PreviewedAsLeft, committed, CommitsAsPreviewed, PerformedAsRun, PreviewsInLists}
+use Rattle.calls.specs.Steps.{Step, commits, previews, Till, commit, step, all_steps, till_after, calls_of, NoCallInHistory, CallsAlone, HistoryWithPreviews, PreviewedAsLeft, committed, CommitsAsPreviewed, PerformedAsRun, PreviewsInLists}
 use Rattle.calls.proofs.InTurn.{answers_next, buffers_after}
 use Rattle.calls.proofs.History.Always.{history}
 use Rattle.calls.proofs.Preview.{length_answers, done_is, place_is, demand_1_preview}
@@ -21,32 +21,32 @@ use Rattle.calls.proofs.Preview.{length_answers, done_is, place_is, demand_1_pre
 -- THE HISTORY
 
 no_call : NoCallInHistory
-unfolding session run
+unfolding all_steps run
 no_call pair [] s = refl
 no_call pair (commits None ∷ steps) s = no_call pair steps s
 no_call pair (commits (Some k) ∷ steps) s = no_call pair steps (step pair (commits (Some k)) s)
 no_call pair (previews other basket count scratch places ∷ steps) s = no_call pair steps (step pair (previews other basket count scratch places) s)
 
 calls_alone : CallsAlone
-unfolding session run
+unfolding all_steps run
 calls_alone pair [] w = refl
 calls_alone pair (k ∷ ks) w = calls_alone pair ks (next pair k w)
 
 with_previews : HistoryWithPreviews
 with_previews pair rows application card_application low high steps =
     let w = start pair rows application card_application in
-    subst After (sym (no_call pair steps (opened w))) (history pair rows application card_application low high (calls_of steps))
+    subst After (sym (no_call pair steps (till_after w))) (history pair rows application card_application low high (calls_of steps))
 
 -- one step more, after the others
-last_step : (pair : Pair) (steps : List Step) (d : Step) (s : Session) → session pair (steps ++ (d ∷ [])) s ≡ step pair d (session pair steps s)
-unfolding session
+last_step : (pair : Pair) (steps : List Step) (d : Step) (s : Till) → all_steps pair (steps ++ (d ∷ [])) s ≡ step pair d (all_steps pair steps s)
+unfolding all_steps
 last_step pair [] d s = refl
 last_step pair (e ∷ steps) d s = last_step pair steps d (step pair e s)
 
 as_left : PreviewedAsLeft
 as_left pair other steps basket count scratch places s =
-    ap (λ (t : Session). t.previewed) (last_step pair steps (previews other basket count scratch places) s)
-    ∙ ap (λ (w : Run). preview other basket count w.buffers scratch places ∷ (session pair steps s).previewed) (no_call pair steps s)
+    ap (λ (t : Till). t.previewed) (last_step pair steps (previews other basket count scratch places) s)
+    ∙ ap (λ (w : Run). preview other basket count w.buffers scratch places ∷ (all_steps pair steps s).previewed) (no_call pair steps s)
 
 -- COMMITTING
 
@@ -56,7 +56,7 @@ committed_buffers pair None w = refl
 committed_buffers pair (Some k) w = refl
 
 all_buffers : (pair : Pair) (gs : List (Option Request)) (w : Run) → committed pair gs w ≡ (perform_all pair gs w.buffers).buffers
-unfolding session perform_all
+unfolding all_steps perform_all
 all_buffers pair [] w = refl
 all_buffers pair (g ∷ gs) w =
     all_buffers pair gs (commit pair g w) ∙ ap (λ (b : Buffers). (perform_all pair gs b).buffers) (committed_buffers pair g w)
@@ -64,7 +64,7 @@ all_buffers pair (g ∷ gs) w =
 -- of the first n places
 answer_at : (pair : Pair) (n : ℕ) (gs : List (Option Request)) (w : Run) (i : ℕ) → i < n → i < length gs
     → get_or (perform_all pair (take n gs) w.buffers).answers i 0 ≡ (perform_given pair (get_or gs i None) (committed pair (take i gs) w)).answer
-unfolding session perform_all
+unfolding all_steps perform_all
 answer_at pair zero gs w i l m = absurd (omega arith)
 answer_at pair (suc n) [] w i l m = absurd (omega arith)
 answer_at pair (suc n) (g ∷ gs) w zero l m = refl

@@ -7,7 +7,7 @@ use Rattle.calls.specs.Buffers.{Buffers}
 use Rattle.calls.specs.History.{Run, next, run, from, start, answers, After}
 use Rattle.calls.specs.Preview.{perform_given, perform_all, Previewed, preview}
 
--- THE SESSION
+-- THE TILL
 
 -- what is done at a counter: what is given as a request is committed, or a basket is previewed, for either pair and with whatever stands
 -- in the scratch buffers and in the places for the answers
@@ -15,8 +15,8 @@ pub data Step : Type 0 where
   commits : Option Request → Step
   previews : (pair : Pair) (basket : List (Option Request)) (count : ℕ) (scratch : Buffers) (places : List ℕ) → Step
 
--- a session: the run of its calls, and what its previews were answered, the last first
-pub record Session : Type 0 where
+-- a till: the run of its calls, and what its previews were answered, the last first
+pub record Till : Type 0 where
   pub run : Run
   pub previewed : List Previewed
 
@@ -26,22 +26,22 @@ commit pair None w = w
 commit pair (Some k) w = next pair k w
 
 -- a preview is of the originals as they are, which it is lent to read
-abbrev pub step : Pair → Step → Session → Session
+abbrev pub step : Pair → Step → Till → Till
 step pair (commits g) s = record { run = commit pair g s.run; previewed = s.previewed }
 step pair (previews other basket count scratch places) s =
     record { run = s.run; previewed = preview other basket count s.run.buffers scratch places ∷ s.previewed }
 
-unfoldable pub session : Pair → List Step → Session → Session
-session pair [] s = s
-session pair (d ∷ steps) s = session pair steps (step pair d s)
+unfoldable pub all_steps : Pair → List Step → Till → Till
+all_steps pair [] s = s
+all_steps pair (d ∷ steps) s = all_steps pair steps (step pair d s)
 
--- a session after calls, without previews so far
-abbrev pub opened : Run → Session
-opened w = record { run = w; previewed = [] }
+-- a till after calls, without previews so far
+abbrev pub till_after : Run → Till
+till_after w = record { run = w; previewed = [] }
 
 -- THE HISTORY
 
--- the calls of a session, without its previews
+-- the calls among its steps, without the previews
 abbrev pub calls_of : List Step → List Request
 calls_of [] = []
 calls_of (commits None ∷ steps) = calls_of steps
@@ -50,30 +50,30 @@ calls_of (previews other basket count scratch places ∷ steps) = calls_of steps
 
 -- "A preview is no call in a title's history.": the calls' answers, the ledger and the card are those without the previews
 abbrev pub NoCallInHistory : Type 0
-NoCallInHistory = (pair : Pair) (steps : List Step) (s : Session) → (session pair steps s).run ≡ run pair (calls_of steps) s.run
+NoCallInHistory = (pair : Pair) (steps : List Step) (s : Till) → (all_steps pair steps s).run ≡ run pair (calls_of steps) s.run
 
--- a session of nothing but calls is the run of them
+-- steps that are nothing but calls are the run of them
 abbrev pub CallsAlone : Type 0
-CallsAlone = (pair : Pair) (ks : List Request) (w : Run) → session pair (map (λ k. commits (Some k)) ks) (opened w) ≡ opened (run pair ks w)
+CallsAlone = (pair : Pair) (ks : List Request) (w : Run) → all_steps pair (map (λ k. commits (Some k)) ks) (till_after w) ≡ till_after (run pair ks w)
 
 -- and so demand 3 holds of every list of calls with any previews between them
 abbrev pub HistoryWithPreviews : Type 0
 HistoryWithPreviews =
     (pair : Pair) (rows application card_application : ℕ) → 1 ≤ rows → rows ≤ 999 → (steps : List Step)
-    → After (session pair steps (opened (start pair rows application card_application))).run
+    → After (all_steps pair steps (till_after (start pair rows application card_application))).run
 
 -- each preview is of the ledger and the card as the calls before it left them
 abbrev pub PreviewedAsLeft : Type 0
 PreviewedAsLeft =
-    (pair other : Pair) (steps : List Step) (basket : List (Option Request)) (count : ℕ) (scratch : Buffers) (places : List ℕ) (s : Session)
-    → (session pair (steps ++ (previews other basket count scratch places ∷ [])) s).previewed
-    ≡ preview other basket count (run pair (calls_of steps) s.run).buffers scratch places ∷ (session pair steps s).previewed
+    (pair other : Pair) (steps : List Step) (basket : List (Option Request)) (count : ℕ) (scratch : Buffers) (places : List ℕ) (s : Till)
+    → (all_steps pair (steps ++ (previews other basket count scratch places ∷ [])) s).previewed
+    ≡ preview other basket count (run pair (calls_of steps) s.run).buffers scratch places ∷ (all_steps pair steps s).previewed
 
 -- COMMITTING A BASKET
 
 -- the originals once its requests are committed one by one
 abbrev pub committed : Pair → List (Option Request) → Run → Buffers
-committed pair basket w = (session pair (map commits basket) (opened w)).run.buffers
+committed pair basket w = (all_steps pair (map commits basket) (till_after w)).run.buffers
 
 -- after these calls, place by place: what was previewed is what the request there is answered, once those before it are committed, and the
 -- scratch buffers are what the originals become
