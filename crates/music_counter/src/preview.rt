@@ -28,7 +28,11 @@ pub trait Given: Copy {
 impl Given for Request {
     ghost given = { λ request. Some request };
 
-    fn perform(&self, pair: Pair, ledger: &mut [u8], titles: &mut [u8], rules: &mut [u8]) -> u64 {
+    fn perform(&self, pair: Pair, ledger: &mut [u8], titles: &mut [u8], rules: &mut [u8]) -> u64
+        ensures { AnswersGiven pair (Some self.now)
+            (buffers_of ledger.old titles.old rules.old) result
+            (buffers_of ledger.new titles.new rules.new) }
+    {
         refusal::number(serve::perform(pair, ledger, titles, rules, *self))
     }
 }

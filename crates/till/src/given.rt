@@ -1,6 +1,8 @@
 // A request as C gives it, and how it is performed.
 #![tactic(auto)]
 
+ghost use Rattle.calls.specs.Buffers.{buffers_of};
+ghost use Rattle.music_counter.specs.Preview.{AnswersGiven};
 ghost use Rattle.till.specs.Given.{request_given};
 
 use crate::{
@@ -26,7 +28,11 @@ impl Given for CounterRequest {
     // its C function and this, or twice over; both take longer. Inline, since as a call this takes a nanosecond more.
     #[tactic(auto, unfolding(requests::specs::Values::request_in, requests::specs::Request::request_of))]
     #[inline(always)]
-    fn perform(&self, pair: Pair, ledger: &mut [u8], titles: &mut [u8], rules: &mut [u8]) -> u64 {
+    fn perform(&self, pair: Pair, ledger: &mut [u8], titles: &mut [u8], rules: &mut [u8]) -> u64
+        ensures { AnswersGiven pair (request_given self.now)
+            (buffers_of ledger.old titles.old rules.old) result
+            (buffers_of ledger.new titles.new rules.new) }
+    {
         let pair = pair == Pair::Picture;
         let a = &self.arguments;
         match self.kind {
