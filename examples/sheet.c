@@ -41,7 +41,10 @@ static void register_title(uint64_t title, uint64_t rights, uint64_t permits)
     show("register", counter_register(LEDGER, title, 2, 0, rights, permits, title_key, sti_key));
 }
 
-/* A line for each title: its row, state, permits, rights and copies; then the totals. If refused, nothing is printed. */
+/*
+ * A line for each title: its row, state, permits, rights and copies; then the totals, and how many entries are spent (8 and 10
+ * here). If refused, nothing is printed.
+ */
 static void print_sheet(void)
 {
     uint8_t text[COUNTER_SHEET_SIZE];

@@ -23,8 +23,12 @@
  * and compares it, and computes neither.
  *
  * A row is empty; here, where the ledger holds the title; away, where the card holds it; or gone, where the title was
- * deleted. A damaged row is in no state. An entry is free; a copy, lent from a row; full, the holder of its title; or torn,
- * where its halves do not fit together. No call takes a torn entry.
+ * deleted. A damaged row is in no state. An entry is of one of five kinds: free; a copy, lent from a row; full, the holder
+ * of its title; torn, where its halves do not fit together; or spent. Of a free or spent entry neither half is usable,
+ * which takes flag 1 and a content ID; a spent one has flag 0 and a content ID from 1 to 999 in its title half, that of the
+ * title that was there. A copy that is checked in or deleted leaves its entry spent, and so does a title that is moved out
+ * or deleted, until the next title is put there. Where a call needs a free entry, a spent one does as well. No call takes a
+ * torn entry. A fresh card has free entries only.
  *
  * PAIRS
  *
@@ -188,7 +192,7 @@ uint64_t counter_register(uint8_t *ledger, size_t ledger_len, uint64_t content, 
 /*
  * Records title `content` with its facts on the card, at once and without a stay in the ledger.
  *
- * Answers 4, 5, 6, 7, 8, 9; 10 where the entry is not free; 11 where the row is above R or not empty.
+ * Answers 4, 5, 6, 7, 8, 9; 10 where the entry is neither free nor spent; 11 where the row is above R or not empty.
  * Done: the row is away, and the entry is full with the facts and the hash.
  */
 uint64_t counter_record(bool pair, uint8_t *ledger, size_t ledger_len, uint8_t *titles, size_t titles_len, uint8_t *rules,
@@ -198,8 +202,8 @@ uint64_t counter_record(bool pair, uint8_t *ledger, size_t ledger_len, uint8_t *
 /*
  * Lends a copy of title `content` to an entry of the card.
  *
- * Answers 4, 5, 7, 8, 9; 10 where the entry is not free; 11 where the row is above R or not here; 12 where its permits
- * are 0.
+ * Answers 4, 5, 7, 8, 9; 10 where the entry is neither free nor spent; 11 where the row is above R or not here; 12 where
+ * its permits are 0.
  * Done: the entry is a copy, with the row's title key, and with CCI 3 where the row has 2, else the row's; the row's permits
  * are one less, or 15 as before. Of the row no other byte changes, so it keeps its CCI, and the rule table is only read.
  */
@@ -211,8 +215,8 @@ uint64_t counter_check_out(bool pair, uint8_t *ledger, size_t ledger_len, uint8_
  *
  * Answers 5, 7, 8, 9; 10 where the entry is not a copy; 11 where its row is above R or not here; 15 where that row's
  * permits are 14; 16 where f1 modulo 2^56 is the copy's title key.
- * Done: the title half is wiped with f1; the row's permits are one more, or 15 as before. Of the row no other byte changes,
- * and the rule table is only read.
+ * Done: the title half is wiped with f1, and the entry is spent; the row's permits are one more, or 15 as before. Of the
+ * row no other byte changes, and the rule table is only read.
  */
 uint64_t counter_check_in(bool pair, uint8_t *ledger, size_t ledger_len, uint8_t *titles, size_t titles_len,
                           const uint8_t *rules, size_t rules_len, uint64_t entry, uint64_t f1);
@@ -223,7 +227,8 @@ uint64_t counter_check_in(bool pair, uint8_t *ledger, size_t ledger_len, uint8_t
  * Answers 5, 7, 8, 9; 10 where the entry is not full; 11 where its row is above R or not away; 12 where the entry's trigger
  * is 1 or its rights are 0; 13 where hash is not the entry's C_HASH; 16 where f1 modulo 2^56 is the entry's title key or,
  * in an audio call, f2 modulo 2^56 its STI key.
- * Done: the row is here with the entry's facts, rights one less, or 15 as before; both halves are wiped.
+ * Done: the row is here with the entry's facts, rights one less, or 15 as before; both halves are wiped, and the entry is
+ * spent.
  */
 uint64_t counter_move_out(bool pair, uint8_t *ledger, size_t ledger_len, uint8_t *titles, size_t titles_len, uint8_t *rules,
                           size_t rules_len, uint64_t entry, uint64_t hash, uint64_t f1, uint64_t f2, uint64_t f3,
@@ -232,8 +237,8 @@ uint64_t counter_move_out(bool pair, uint8_t *ledger, size_t ledger_len, uint8_t
 /*
  * Moves title `content` from its row of the ledger into an entry of the card.
  *
- * Answers 4, 5, 7, 8, 9; 10 where the entry is not free; 11 where the row is above R or not here; 12 where its trigger is 1
- * or its rights are 0; 14 where a copy of the title is on the card.
+ * Answers 4, 5, 7, 8, 9; 10 where the entry is neither free nor spent; 11 where the row is above R or not here; 12 where
+ * its trigger is 1 or its rights are 0; 14 where a copy of the title is on the card.
  * Done: the entry is full with the row's facts, rights one less, or 15 as before, and the hash; the row is away.
  *
  * Whatever it answers, *entries_read is how many entries the test for 14 read, from entry 1 on: 0 where an earlier test
@@ -248,9 +253,9 @@ uint64_t counter_move_in(bool pair, uint8_t *ledger, size_t ledger_len, uint8_t 
  *
  * Answers 5, 7, 8, 9; 10 where the entry is neither a copy nor full; 11 where it is full and its row is above R or not away;
  * 16 where f1 modulo 2^56 is the entry's title key or, in a full entry and an audio call, f2 modulo 2^56 its STI key.
- * Done, a copy: the title half is wiped with f1. The row is neither tested nor changed, nor is the rule table; f2 to f4 are
- * not used.
- * Done, a full entry: both halves are wiped, and the row is gone: it is not used again.
+ * Done, a copy: the title half is wiped with f1, and the entry is spent. The row is neither tested nor changed, nor is the
+ * rule table; f2 to f4 are not used.
+ * Done, a full entry: both halves are wiped, the entry is spent, and the row is gone: it is not used again.
  */
 uint64_t counter_delete(bool pair, uint8_t *ledger, size_t ledger_len, uint8_t *titles, size_t titles_len, uint8_t *rules,
                         size_t rules_len, uint64_t entry, uint64_t f1, uint64_t f2, uint64_t f3, uint64_t f4);
@@ -276,11 +281,12 @@ uint64_t counter_tally(bool pair, const uint8_t *titles, size_t titles_len, cons
  *   rights     entry with its content ID; 0 where a damaged card has none); of any other 0. 15 means unlimited
  *   copies     how many loan copies are on the card, as counter_tally counts them
  *
- * The last line is "total" and two sums over the lines above it: of the permits other than 15, and of the copies. Copies of a
- * title without a line, as a damaged card may have, are in neither. Each line ends with a line feed (10), and nothing comes
- * after the last one, no 0 either. While the calls of a title were made as this header asks, and its holder was not deleted,
- * its permits, its copies and those of its copies that were deleted add up to the permits that it was granted, where these
- * are at most 14. A title whose holder was deleted shows 3 0 0 0.
+ * Behind these comes a line "total" with two sums over the lines above it: of the permits other than 15, and of the copies.
+ * Copies of a title without a line, as a damaged card may have, are in neither. The last line is "spent" and the number of
+ * entries of the card that are spent, 0 included. Each line ends with a line feed (10), and nothing comes after the last
+ * one, no 0 either. While the calls of a title were made as this header asks, and its holder was not deleted, its permits,
+ * its copies and those of its copies that were deleted add up to the permits that it was granted, where these are at most
+ * 14. A title whose holder was deleted shows 3 0 0 0.
  */
 
 /* Room for any sheet. */

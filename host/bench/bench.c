@@ -246,9 +246,9 @@ int main(int count, char **words)
             }
     take_medians();
     printf("\nA call that is timed in many entries finds what it needs there: on a card of the other sort these are every second\n"
-           "entry, and the rest is as the card is named (record and check-out need free entries, check-in and delete copy need\n"
-           "copies, move out and delete title full ones). A move in has entry 999 free on a full card; its row and that entry\n"
-           "are put back between calls, within the time. A sheet has a line for every row; on a card of copies and titles every\n"
+           "entry, and the rest is as the card is named (record and check-out need free or spent entries, check-in and delete\n"
+           "copy need copies, move out and delete title full ones). A move in has entry 999 free on a full card; its row and that\n"
+           "entry are put back between calls, within the time. A sheet has a line for every row; on a card of copies and titles every\n"
            "second row is away. A preview copies a ledger of 999 rows and both tables, 72,000 bytes, whatever the basket has.\n"
            "All cards are audio cards.\n");
     show_section("operation", "Operations, ns per call", 1);

@@ -123,7 +123,7 @@ static void random_identifier(uint8_t *table)
 }
 
 /*
- * Frees an entry, empties a row and records a title there. Of full entries whose rows are away chance alone makes few, and
+ * Clears an entry's flags, empties a row and records a title there. Of full entries whose rows are away chance alone makes few, and
  * the fillers are tested after all else.
  */
 static void hold(struct state *state, bool pair, unsigned entry, unsigned content)
@@ -222,7 +222,7 @@ static struct call random_call(bool pair)
     for (size_t i = 0; i < 4; i++)
         call.f[i] = random_word() << 56 | below(8);
     /* Sheets of small shops fit about as often as not. */
-    call.text_len = one_in(4) ? COUNTER_SHEET_SIZE : below(120);
+    call.text_len = one_in(4) ? COUNTER_SHEET_SIZE : below(130);
     call.request = request_of(&call, near(8, COUNTER_DELETE));
     return call;
 }

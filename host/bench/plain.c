@@ -130,7 +130,7 @@ static inline uint64_t wrong_buffers(bool pair, const uint8_t *ledger, size_t le
 #define FLAG ((uint64_t)1 << 63)
 #define ID_BITS ((uint64_t)0x3ff)
 
-enum entry_kind { FREE, COPY, FULL, TORN };
+enum entry_kind { FREE, COPY, FULL, TORN, SPENT };
 
 /* The content ID of a usable half, or 0: no usable half has ID 0. */
 static inline uint64_t usable_id(const uint8_t *half)
@@ -151,9 +151,16 @@ static inline uint64_t key_of(const uint8_t *half)
     return load64(half) & KEY_BITS;
 }
 
-static inline int is_free(const uint8_t *title, const uint8_t *rule)
+/* Free or spent, which are one kind to the calls that put a title to an entry. */
+static inline int is_vacant(const uint8_t *title, const uint8_t *rule)
 {
     return usable_id(title) == 0 && usable_id(rule) == 0;
+}
+
+/* Flag 0 and an ID from 1 to 999, of a title half that is not usable: 0 wraps to the top, and the flag is above all IDs. */
+static inline int is_stale(const uint8_t *title)
+{
+    return is_numbered(load64(title + 8) & (FLAG | ID_BITS));
 }
 
 static inline enum entry_kind kind_of(const uint8_t *title, const uint8_t *rule)
@@ -161,7 +168,7 @@ static inline enum entry_kind kind_of(const uint8_t *title, const uint8_t *rule)
     uint64_t title_id = usable_id(title), rule_id = usable_id(rule);
 
     if (title_id == 0)
-        return rule_id == 0 ? FREE : TORN;
+        return rule_id != 0 ? TORN : is_stale(title) ? SPENT : FREE;
     if (title_id > 999 || cci_of(title) == 1)
         return TORN;
     if (rule_id == 0)
@@ -375,7 +382,7 @@ uint64_t plain_record(bool pair, uint8_t *ledger, size_t ledger_len, uint8_t *ti
     row = ledger + ROW * content;
     title = titles + TITLE_HALF * entry;
     rule = rules + RULE_HALF * entry;
-    if (!is_free(title, rule))
+    if (!is_vacant(title, rule))
         return COUNTER_KIND_OF_ENTRY;
     if (content > load16(ledger + 2) || row[0] != EMPTY)
         return COUNTER_STATE_OF_ROW;
@@ -400,7 +407,7 @@ uint64_t plain_check_out(bool pair, uint8_t *ledger, size_t ledger_len, uint8_t 
         return wrong;
     row = ledger + ROW * content;
     title = titles + TITLE_HALF * entry;
-    if (!is_free(title, rules + RULE_HALF * entry))
+    if (!is_vacant(title, rules + RULE_HALF * entry))
         return COUNTER_KIND_OF_ENTRY;
     if (content > load16(ledger + 2) || !is_here(row))
         return COUNTER_STATE_OF_ROW;
@@ -493,7 +500,7 @@ static inline uint64_t move_in(bool pair, uint8_t *ledger, size_t ledger_len, ui
     row = ledger + ROW * content;
     title = titles + TITLE_HALF * entry;
     rule = rules + RULE_HALF * entry;
-    if (!is_free(title, rule))
+    if (!is_vacant(title, rule))
         return COUNTER_KIND_OF_ENTRY;
     if (content > load16(ledger + 2) || !is_here(row))
         return COUNTER_STATE_OF_ROW;
@@ -555,24 +562,30 @@ uint64_t plain_delete(bool pair, uint8_t *ledger, size_t ledger_len, uint8_t *ti
 
 /* ---------------------------------------------------------------- the closing sheet */
 
-/* What the card has of each content ID: how many copies, and the rule half of the first full entry. */
+/* What the card has of each content ID: how many copies, and the rule half of the first full entry. And how many spent entries. */
 struct card {
+    unsigned spent;
     uint16_t copies[COUNTER_MOST_ROWS + 1];
     const uint8_t *rule[COUNTER_MOST_ROWS + 1];
 };
 
-/* One pass over the entries serves all rows. */
+/* One pass over the entries serves all rows. Most entries of most cards have no ID, with which they are nothing that counts here. */
 static inline void survey(struct card *card, const uint8_t *titles, const uint8_t *rules)
 {
     memset(card, 0, sizeof *card);
     for (size_t entry = 1; entry <= COUNTER_LAST_ENTRY; entry++) {
         const uint8_t *title = titles + TITLE_HALF * entry, *rule = rules + RULE_HALF * entry;
-        enum entry_kind kind = kind_of(title, rule);
+        enum entry_kind kind;
 
+        if ((load16(title + 14) & ID_BITS) == 0)
+            continue;
+        kind = kind_of(title, rule);
         if (kind == COPY)
             card->copies[usable_id(title)]++;
         else if (kind == FULL && card->rule[usable_id(title)] == NULL)
             card->rule[usable_id(title)] = rule;
+        else if (kind == SPENT)
+            card->spent++;
     }
 }
 
@@ -591,7 +604,7 @@ static inline uint8_t *write_decimal(uint8_t *next, unsigned number, char end)
     return next;
 }
 
-/* Writes the lines and the totals, and answers the place after them. */
+/* Writes the lines, the totals and the number of spent entries, and answers the place after them. */
 static inline uint8_t *write_sheet(uint8_t *next, const uint8_t *ledger, const struct card *card)
 {
     unsigned rows = (unsigned)load16(ledger + 2), all_permits = 0, all_copies = 0;
@@ -619,7 +632,9 @@ static inline uint8_t *write_sheet(uint8_t *next, const uint8_t *ledger, const s
     }
     memcpy(next, "total ", 6);
     next = write_decimal(next + 6, all_permits, ' ');
-    return write_decimal(next, all_copies, '\n');
+    next = write_decimal(next, all_copies, '\n');
+    memcpy(next, "spent ", 6);
+    return write_decimal(next + 6, card->spent, '\n');
 }
 
 /* A text with room for any sheet is written at once; another one only when it is known that the sheet fits. */

@@ -387,6 +387,8 @@ static const struct scene fixed[] = {
     {SHEET, .operation = "64 rows", .card = EMPTY, .rows = 64, .here = {2, 64, 1}, .calls = 32},
     {SHEET, .operation = "64 rows", .card = COPIES_AND_TITLES, .rows = 64, .here = {3, 63, 2}, .copies = {1, 935, 1}, .lent = 1,
      .full = {936, LAST - 1, 2}, .calls = 32},
+    {SHEET, .operation = "64 rows", .card = "copies checked in", .rows = 64, .here = {2, 64, 1}, .copies = ALL, .lent = 1,
+     .stale = 1, .calls = 32},
     {SHEET, .operation = "999 rows", .card = COPIES_AND_TITLES, .here = EVEN, .copies = EVEN, .lent = 1, .full = ODD_BUT_LAST,
      .calls = 4},
 

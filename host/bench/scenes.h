@@ -81,7 +81,7 @@ struct scene {
     unsigned rows;
     struct run here, copies, full;
     unsigned lent;
-    int stale;        /* the copies were checked in again: their content IDs are still there, with flag 0 */
+    int stale;        /* the copies were checked in again, so that their entries are spent: flag 0, and the content ID */
     uint8_t permits;  /* title 1's, where they are not unlimited */
     unsigned in_use;  /* entries in use, in the section on growth */
     batch *batch;

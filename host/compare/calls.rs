@@ -1,10 +1,10 @@
-//! The eleven operations that a call names, by document 01 and requests W1 to W5 of document 02, on tables of either pair: each
-//! tests its conditions in their order, and changes the tables, or what it writes beside them, only when none of them refuses.
+//! The eleven operations that a call names, by document 01 and requests W1 to W5 and W7 of document 02, on tables of either pair:
+//! each tests its conditions in their order, and changes the tables, or what it writes beside them, only when none of them refuses.
 //! What carries such calls out as requests, and previews them, is in `preview`.
 
 use crate::sheet::{self, MOST_TEXT};
 use crate::tables::{CardHead, Entry, EntryKind, Facts, LedgerHead, Pair, Row, RowState, RuleHalf, Tables, TitleHalf};
-use crate::tables::{KEY_LIMIT, LAST_ENTRY, MOST_ROWS, ROW_SIZE, RULE_TABLE_SIZE, TITLE_TABLE_SIZE, UNLIMITED};
+use crate::tables::{KEY_LIMIT, LAST_ENTRY, MOST_ROWS, ROW_SIZE, RULE_TABLE_SIZE, TITLE_TABLE_SIZE, UNLIMITED, VACANT};
 
 #[derive(Clone, Copy, Debug, PartialEq)]
 pub enum Call {
@@ -126,6 +126,14 @@ pub fn leaves_sti_key_alone(call: &Call, tables: &Tables) -> bool {
             })
         }
         _ => false,
+    }
+}
+
+/// The entry to which the call is to put a title, as it is before.
+pub fn entry_to_fill(call: &Call, tables: &Tables) -> Option<Entry> {
+    match *call {
+        Call::Record { entry, .. } | Call::CheckOut { entry, .. } | Call::MoveIn { entry, .. } => tables.entry(entry),
+        _ => None,
     }
 }
 
@@ -289,7 +297,7 @@ fn record(pair: Pair, tables: &mut Tables, content: u64, entry: u64, facts: Fact
     test_entry(entry)?;
     test_facts(&facts)?;
     test_tables(pair, tables)?;
-    entry_of_kind(tables, entry, &[EntryKind::Free])?;
+    entry_of_kind(tables, entry, &VACANT)?;
     row_in_state(tables, content, RowState::Empty)?;
     put_full(tables, content, entry, &facts, hash);
     tables.put_row(content, &Row::away());
@@ -300,7 +308,7 @@ fn check_out(pair: Pair, tables: &mut Tables, content: u64, entry: u64) -> Teste
     test_content(content)?;
     test_entry(entry)?;
     test_tables(pair, tables)?;
-    entry_of_kind(tables, entry, &[EntryKind::Free])?;
+    entry_of_kind(tables, entry, &VACANT)?;
     let mut row = row_in_state(tables, content, RowState::Here)?;
     refuse_unless(row.facts.permits != 0, 12)?;
     let lent = Facts { cci: copy_cci(row.facts.cci), ..row.facts };
@@ -344,7 +352,7 @@ fn move_in(
     test_content(content)?;
     test_entry(entry)?;
     test_tables(pair, tables)?;
-    entry_of_kind(tables, entry, &[EntryKind::Free])?;
+    entry_of_kind(tables, entry, &VACANT)?;
     let row = row_in_state(tables, content, RowState::Here)?;
     test_move(&row.facts)?;
     let copy = tables.first_copy(content);

@@ -5,9 +5,10 @@ use std::fmt::Debug;
 
 use crate::calls::{self, Call, Operation, Results, FORMATTING, KINDS, OPERATIONS};
 use crate::history::Titles;
+use crate::inputs::STALE_IDS;
 use crate::preview::{self, Basket, Previewed};
 use crate::requests::{self, Request};
-use crate::tables::{Pair, Tables, LAST_ENTRY, PAIRS};
+use crate::tables::{EntryKind, Pair, Tables, LAST_ENTRY, PAIRS};
 use crate::till;
 
 /// Answers are 0 to 18.
@@ -48,6 +49,10 @@ struct OfPair {
     other_pair: [[u64; ANSWERS]; OPERATIONS.len()],
     /// And those whose fillers would leave the STI key of a full entry, and no other key.
     sti_key_left: [[u64; ANSWERS]; OPERATIONS.len()],
+    /// Those that are to put a title to a spent entry.
+    at_spent: [[u64; ANSWERS]; OPERATIONS.len()],
+    /// And to an entry with flag 0 and one of `STALE_IDS` in its title half, without and with a usable rule half.
+    at_stale: [[u64; 2]; STALE_IDS.len()],
     /// Move ins that found a copy, by the entries that they read.
     read_to_copy: Reads,
     /// Calls that were requests in numbers, and those in baskets that were previewed.
@@ -68,8 +73,8 @@ impl Default for Reads {
 
 impl OfPair {
     /// Each operation that tests heads met a title table, and a rule table, of the other pair; a move out and a delete that would
-    /// leave the STI key were answered 16 or, for pictures, done; a move in found the first copy in each entry; and demand 3 was
-    /// tested, on sheets too.
+    /// leave the STI key were answered 16 or, for pictures, done; each call that puts a title to an entry was done at a spent one;
+    /// a move in found the first copy in each entry; and demand 3 was tested, on sheets too.
     fn complete(&self, pair: Pair) -> Result<(), String> {
         for (operation, name, allowed) in &OPERATIONS[..FORMATTING] {
             let met = |counts: &[[u64; ANSWERS]], answer: usize| counts[*operation as usize][answer] > 0;
@@ -82,7 +87,15 @@ impl OfPair {
             if wipes_full && !met(&self.sti_key_left, if pair == Pair::Audio { 16 } else { 0 }) {
                 return Err(format!("{pair:?} {name}: no filler that leaves the STI key"));
             }
+            let fills = matches!(operation, Operation::Record | Operation::CheckOut | Operation::MoveIn);
+            if fills && !met(&self.at_spent, 0) {
+                return Err(format!("{pair:?} {name}: never done at a spent entry"));
+            }
         }
+        self.titles_tested(pair)
+    }
+
+    fn titles_tested(&self, pair: Pair) -> Result<(), String> {
         if let Some(entry) = (1..=LAST_ENTRY).find(|entry| self.read_to_copy.0[*entry as usize] == 0) {
             return Err(format!("{pair:?} move in: the first copy was never in entry {entry}"));
         }
@@ -95,7 +108,13 @@ impl OfPair {
         if self.titles.lines_after_deletes == 0 {
             return Err(format!("{pair:?}: no line of a sheet was held to its title's grant after copies were deleted"));
         }
-        Ok(())
+        if self.titles.spent == 0 {
+            return Err(format!("{pair:?}: no entry was spent after a list of calls"));
+        }
+        match STALE_IDS.iter().zip(self.at_stale).find(|(_, counts)| counts.contains(&0)) {
+            Some((id, counts)) => Err(format!("{pair:?}: calls at entries with flag 0 and ID {id}: {counts:?}")),
+            None => Ok(()),
+        }
     }
 
     /// How often each of these answers came up, all operations together.
@@ -229,15 +248,22 @@ impl Run {
         }
         print_line("kinds read", &self.kinds_read);
         for pair in PAIRS {
-            let OfPair { titles, other_pair, sti_key_left, performed, in_baskets, .. } = &self.pairs[pair as usize];
+            let OfPair { titles, other_pair, sti_key_left, at_spent, at_stale, performed, in_baskets, .. } =
+                &self.pairs[pair as usize];
             print_line(&format!("{pair:?} requests performed"), &OfPair::together(performed));
             print_line(&format!("{pair:?} requests in baskets"), &OfPair::together(in_baskets));
             print_line(&format!("{pair:?} on tables of the other pair"), &OfPair::together(other_pair));
             print_line(&format!("{pair:?} with f2 the STI key"), &OfPair::together(sti_key_left));
-            let Titles { with_holder, deleted, copies, lines, lines_after_deletes } = titles;
+            print_line(&format!("{pair:?} to a spent entry"), &OfPair::together(at_spent));
+            for (rule_half, number) in [("no usable rule half", 0), ("a usable rule half", 1)] {
+                let counts = STALE_IDS.iter().zip(at_stale).map(|(id, counts)| format!("{id}: {}", counts[number]));
+                println!("{pair:?} to flag 0 beside {rule_half}, by ID  {}", counts.collect::<Vec<_>>().join("  "));
+            }
+            let Titles { with_holder, deleted, copies, lines, lines_after_deletes, spent } = titles;
             println!("{pair:?}: demand 3 tested of {with_holder} titles with a holder and {deleted} whose holder was deleted");
             print_line(&format!("{pair:?} copies by CCI granted"), copies);
             println!("{pair:?}: {lines} lines of sheets add up to the grant, {lines_after_deletes} of them with copies deleted");
+            println!("{pair:?}: {spent} spent entries are those from which the calls took a title");
         }
         let Run { calls, sheets, previews, requests, .. } = self;
         println!("{calls} calls, {sheets} sheets, {previews} previews and {requests} requests compared");
@@ -268,6 +294,29 @@ fn print_line(name: &str, counts: &[u64]) {
     let came_up = counts.iter().enumerate().filter(|(_, count)| **count > 0);
     came_up.for_each(|(number, count)| print!("  {number}: {count}"));
     println!();
+}
+
+/// What is to come up and is rare, of a call and the tables before it.
+struct Rare {
+    leaves_sti_key: bool,
+    to_spent: bool,
+    /// Which of `STALE_IDS` the entry's title half has beside flag 0, and whether its rule half is usable.
+    to_stale: Option<[usize; 2]>,
+}
+
+impl Rare {
+    fn of(call: &Call, tables: &Tables) -> Self {
+        let entry = calls::entry_to_fill(call, tables);
+        let stale = entry.filter(|found| !found.title.place.flag).and_then(|found| {
+            let id = STALE_IDS.iter().position(|id| *id == found.content_id())?;
+            Some([id, usize::from(found.rule.place.usable())])
+        });
+        Rare {
+            leaves_sti_key: calls::leaves_sti_key_alone(call, tables),
+            to_spent: entry.is_some_and(|found| found.kind() == EntryKind::Spent),
+            to_stale: stale,
+        }
+    }
 }
 
 /// The same tables twice, the pair that calls on them are of, whether those that can be are made as requests in numbers, and
@@ -317,11 +366,11 @@ impl Sides {
         }
         self.library_results = Results::before(call, run.calls + run.sheets);
         self.expected_results = self.library_results.clone();
-        let leaves_sti_key = calls::leaves_sti_key_alone(call, &self.library);
+        let rare = Rare::of(call, &self.library);
         let answer = till::perform(self.pair, call, &mut self.library, &mut self.library_results);
         let expected = calls::perform(self.pair, call, &mut self.expected, &mut self.expected_results);
         self.same(run, call, [answer, expected], self.first_difference())?;
-        self.note(run, call, answer as usize, leaves_sti_key);
+        self.note(run, call, answer as usize, &rare);
         Ok(answer)
     }
 
@@ -372,7 +421,7 @@ impl Sides {
         std::str::from_utf8(text.get(..*used)?).ok()
     }
 
-    fn note(&self, run: &mut Run, call: &Call, answer: usize, leaves_sti_key: bool) {
+    fn note(&self, run: &mut Run, call: &Call, answer: usize, rare: &Rare) {
         let came_up = &mut run.pairs[self.pair as usize];
         let operation = call.operation() as usize;
         came_up.operations[operation][answer] += 1;
@@ -380,7 +429,11 @@ impl Sides {
         let of_other = (answer == 8 && self.library.title_head(other).is_some())
             || (answer == 9 && self.library.rule_head(other).is_some());
         came_up.other_pair[operation][answer] += u64::from(of_other);
-        came_up.sti_key_left[operation][answer] += u64::from(leaves_sti_key);
+        came_up.sti_key_left[operation][answer] += u64::from(rare.leaves_sti_key);
+        came_up.at_spent[operation][answer] += u64::from(rare.to_spent);
+        if let Some([id, rule_half]) = rare.to_stale {
+            came_up.at_stale[id][rule_half] += 1;
+        }
         if answer == 14 {
             came_up.read_to_copy.0[self.library_results.entries_read as usize] += 1;
         }

@@ -1,18 +1,20 @@
 //! What demand 3 counts: numbers of calls that were done, from the list of calls and answers alone, against holders and
-//! copies in the bytes, each with its CCI, and against the lines of the closing sheet.
+//! copies in the bytes, each with its CCI, and against the lines of the closing sheet. And what the list says of each entry, which may
+//! be spent.
 
 use std::collections::HashMap;
 use std::fmt::Debug;
 
 use crate::calls::Call;
-use crate::sheet::{self, Line, Totals};
-use crate::tables::{Facts, RowState, Tables, UNLIMITED};
+use crate::sheet::{self, Line, Sheet, Totals};
+use crate::tables::{EntryKind, Facts, RowState, Tables, LAST_ENTRY, UNLIMITED};
 
-/// What the last done record, check-out or move in to an entry put there.
+/// What the last done call at an entry was: of which title it put a copy or the holder there, or took what was there.
 #[derive(Clone, Copy)]
-enum LastPut {
+enum LastDone {
     Copy(u64),
     Holder(u64),
+    Taken(u64),
 }
 
 /// A title's done calls.
@@ -30,12 +32,12 @@ struct Title {
 #[derive(Default)]
 pub struct Counts {
     titles: HashMap<u64, Title>,
-    last_put: HashMap<u64, LastPut>,
+    last_done: HashMap<u64, LastDone>,
 }
 
 /// How many granted titles were tested: those that must have a holder, and those whose holder was deleted. How many copies were held
-/// to their title's CCI, by that CCI. And how many lines of sheets were held to a grant of at most 14 permits, and of these how many
-/// after copies of the title were deleted.
+/// to their title's CCI, by that CCI. How many lines of sheets were held to a grant of at most 14 permits, and of these how many
+/// after copies of the title were deleted. And how many entries were spent.
 #[derive(Clone, Copy, Default)]
 pub struct Titles {
     pub with_holder: u64,
@@ -43,6 +45,7 @@ pub struct Titles {
     pub copies: [u64; 4],
     pub lines: u64,
     pub lines_after_deletes: u64,
+    pub spent: u64,
 }
 
 impl Titles {
@@ -52,6 +55,7 @@ impl Titles {
         self.copies.iter_mut().zip(more.copies).for_each(|(sum, copies)| *sum += copies);
         self.lines += more.lines;
         self.lines_after_deletes += more.lines_after_deletes;
+        self.spent += more.spent;
     }
 }
 
@@ -72,21 +76,21 @@ impl Counts {
             Call::Register { content, facts } => self.grant(content, facts),
             Call::Record { content, entry, facts, .. } => {
                 self.grant(content, facts);
-                self.last_put.insert(entry, LastPut::Holder(content));
+                self.last_done.insert(entry, LastDone::Holder(content));
             }
             Call::CheckOut { content, entry } => {
                 self.title(content).check_outs += 1;
-                self.last_put.insert(entry, LastPut::Copy(content));
+                self.last_done.insert(entry, LastDone::Copy(content));
             }
             Call::MoveIn { content, entry, .. } => {
                 self.title(content).moves += 1;
-                self.last_put.insert(entry, LastPut::Holder(content));
+                self.last_done.insert(entry, LastDone::Holder(content));
             }
-            Call::CheckIn { entry, .. } => self.title_put_at(entry)?.check_ins += 1,
-            Call::MoveOut { entry, .. } => self.title_put_at(entry)?.moves += 1,
-            Call::Delete { entry, .. } => match self.last_put.get(&entry) {
-                Some(LastPut::Copy(_)) => self.title_put_at(entry)?.copies_deleted += 1,
-                _ => self.title_put_at(entry)?.holders_deleted += 1,
+            Call::CheckIn { entry, .. } => self.title_taken_from(entry)?.check_ins += 1,
+            Call::MoveOut { entry, .. } => self.title_taken_from(entry)?.moves += 1,
+            Call::Delete { entry, .. } => match self.last_done.get(&entry) {
+                Some(LastDone::Copy(_)) => self.title_taken_from(entry)?.copies_deleted += 1,
+                _ => self.title_taken_from(entry)?.holders_deleted += 1,
             },
             Call::Tally { .. } | Call::Sheet { .. } | Call::FormatLedger { .. } | Call::FormatCard { .. } => (),
         }
@@ -103,15 +107,20 @@ impl Counts {
         title.granted = Some(facts);
     }
 
-    /// The title that a check-in, move out or delete at this entry belongs to.
-    fn title_put_at(&mut self, entry: u64) -> Result<&mut Title, String> {
-        match self.last_put.get(&entry).copied() {
-            Some(LastPut::Copy(content) | LastPut::Holder(content)) => Ok(self.title(content)),
-            None => Err(format!("demand 3: a call at entry {entry} was done, where nothing was put")),
+    /// The title of which a check-in, move out or delete took what was put at this entry.
+    fn title_taken_from(&mut self, entry: u64) -> Result<&mut Title, String> {
+        match self.last_done.get(&entry).copied() {
+            Some(LastDone::Copy(content) | LastDone::Holder(content)) => {
+                self.last_done.insert(entry, LastDone::Taken(content));
+                Ok(self.title(content))
+            }
+            Some(LastDone::Taken(_)) | None => {
+                Err(format!("demand 3: a call at entry {entry} was done, where nothing was put"))
+            }
         }
     }
 
-    /// Demand 3 on the bytes as they stand after the calls noted, and on their sheet where there is one.
+    /// Demand 3, and what was put and taken, on the bytes as they stand after the calls noted, and on their sheet where there is one.
     pub fn check(&self, tables: &Tables, sheet: Option<&str>, tested: &mut Titles) -> Result<(), String> {
         let (not_granted, standings) = (Title::default(), standings(tables));
         for (content, standing) in standings.iter().enumerate().skip(1) {
@@ -121,13 +130,34 @@ impl Counts {
         let deleted = self.titles.values().filter(|title| title.holders_deleted > 0).count() as u64;
         tested.deleted += deleted;
         tested.with_holder += self.titles.len() as u64 - deleted;
-        sheet.map_or(Ok(()), |text| self.check_sheet(&standings, text, tested))
+        let spent = self.check_entries(tables)?;
+        tested.spent += spent;
+        sheet.map_or(Ok(()), |text| self.check_sheet(&standings, spent, text, tested))
+    }
+
+    /// "Customers want to see which entry once had which loan": every entry has the kind and content ID that the list of calls says
+    /// it has. Answers how many are spent.
+    fn check_entries(&self, tables: &Tables) -> Result<u64, String> {
+        let mut spent = 0;
+        for entry in 1..=LAST_ENTRY {
+            let found = tables.entry(entry).ok_or("a card has 999 entries")?;
+            let expected = match self.last_done.get(&entry) {
+                None => (EntryKind::Free, 0),
+                Some(LastDone::Copy(content)) => (EntryKind::Copy, *content),
+                Some(LastDone::Holder(content)) => (EntryKind::Full, *content),
+                Some(LastDone::Taken(content)) => (EntryKind::Spent, *content),
+            };
+            equal("kind and content ID", (found.kind(), found.content_id()), expected)
+                .map_err(|what| format!("entry {entry}: {what}"))?;
+            spent += u64::from(found.kind() == EntryKind::Spent);
+        }
+        Ok(spent)
     }
 
     /// What a manager can tell from the sheet: it has a line for each title granted and no other, each agrees with the calls, and
     /// "the sums must equal the records".
-    fn check_sheet(&self, standings: &[Standing], text: &str, tested: &mut Titles) -> Result<(), String> {
-        let (lines, totals) = sheet::read(text).ok_or("not a sheet")?;
+    fn check_sheet(&self, standings: &[Standing], spent: u64, text: &str, tested: &mut Titles) -> Result<(), String> {
+        let Sheet { lines, totals, spent: on_sheet } = sheet::read(text).ok_or("not a sheet")?;
         equal("lines of the sheet", lines.len(), self.titles.len())?;
         for line in &lines {
             let title = self.titles.get(&line.row).ok_or("a line of a title not granted")?;
@@ -137,7 +167,10 @@ impl Counts {
         let permits = standings.iter().flat_map(|standing| &standing.holders).map(|facts| facts.permits);
         let permits = permits.filter(|permits| *permits != UNLIMITED).sum();
         let copies = standings.iter().map(|standing| standing.copies.len() as u64).sum();
-        equal("totals of the sheet", totals, Totals { permits, copies })
+        equal("totals of the sheet", totals, Totals { permits, copies })?;
+        let taken = self.last_done.values().filter(|last| matches!(last, LastDone::Taken(_))).count() as u64;
+        equal("spent entries on the sheet, by the bytes", on_sheet, spent)?;
+        equal("spent entries on the sheet, by the calls", on_sheet, taken)
     }
 }
 

@@ -3,7 +3,7 @@
 use crate::calls::{Call, Operation};
 use crate::sheet;
 use crate::tables::{CardHead, Entry, EntryKind, Facts, LedgerHead, Pair, Row, RowState, RuleHalf, Tables, TitleHalf};
-use crate::tables::{KEY_LIMIT, ROW_SIZE, RULE_HALF_SIZE, RULE_TABLE_SIZE, TITLE_HALF_SIZE, TITLE_TABLE_SIZE};
+use crate::tables::{KEY_LIMIT, ROW_SIZE, RULE_HALF_SIZE, RULE_TABLE_SIZE, TITLE_HALF_SIZE, TITLE_TABLE_SIZE, VACANT};
 
 /// Random numbers by the splitmix64 rule: the same seed gives the same numbers.
 pub struct Random {
@@ -66,6 +66,9 @@ pub const LIMITS: &[u64] = &[
     (1 << 48) - 1, 1 << 48, (1 << 49) - 1, 1 << 49, (1 << 55) - 1, 1 << 55, (1 << 56) - 1, 1 << 56, (1 << 56) + 1, 1 << 57,
     (1 << 63) - 1, 1 << 63, (1 << 63) + 1, u64::MAX - 1, u64::MAX,
 ];
+
+/// Content IDs at and past the limits of those with which an entry is spent.
+pub const STALE_IDS: [u64; 5] = [0, 1, 999, 1000, 1023];
 
 /// Sums with a good argument that would pass if their upper bits were cut off.
 pub const CUT_OFF: &[u64] = &[1 << 2, 1 << 4, 1 << 8, 1 << 10, 1 << 16, 1 << 32, 1 << 56, 1 << 63];
@@ -163,7 +166,7 @@ fn room_for_sheet(random: &mut Random, tables: &Tables) -> u64 {
 
 /// A call of this operation that these tables are likely to allow.
 pub fn likely_call(random: &mut Random, tables: &Tables, named: &Named, operation: Operation) -> Call {
-    use EntryKind::{Copy, Free, Full};
+    use EntryKind::{Copy, Full};
     let content = match operation {
         Operation::Register | Operation::Record => content_in_state(random, tables, named, RowState::Empty),
         Operation::CheckOut | Operation::MoveIn => content_in_state(random, tables, named, RowState::Here),
@@ -173,7 +176,7 @@ pub fn likely_call(random: &mut Random, tables: &Tables, named: &Named, operatio
         Operation::CheckIn => entry_of_kind(random, tables, named, &[Copy]),
         Operation::MoveOut => entry_of_kind(random, tables, named, &[Full]),
         Operation::Delete => entry_of_kind(random, tables, named, &[Copy, Full]),
-        _ => entry_of_kind(random, tables, named, &[Free]),
+        _ => entry_of_kind(random, tables, named, &VACANT),
     };
     let found = tables.entry(entry);
     let application = random.number() as u16;
@@ -200,15 +203,15 @@ pub fn likely_call(random: &mut Random, tables: &Tables, named: &Named, operatio
 /// Whether row and entry are as the call needs them. Nothing else that may refuse the call is looked at.
 fn fits(tables: &Tables, call: &Call) -> bool {
     let row_is = |content, state| tables.row(content).is_some_and(|row| row.state() == state);
-    let entry_is = |entry, kind| tables.entry(entry).is_some_and(|found| found.kind() == kind);
+    let entry_is = |entry, kinds: &[EntryKind]| tables.entry(entry).is_some_and(|found| kinds.contains(&found.kind()));
     match *call {
         Call::Register { content, .. } => row_is(content, RowState::Empty),
-        Call::Record { content, entry, .. } => row_is(content, RowState::Empty) && entry_is(entry, EntryKind::Free),
-        Call::CheckOut { content, entry } => row_is(content, RowState::Here) && entry_is(entry, EntryKind::Free),
-        Call::CheckIn { entry, .. } => entry_is(entry, EntryKind::Copy),
-        Call::MoveOut { entry, .. } => entry_is(entry, EntryKind::Full),
-        Call::MoveIn { content, entry, .. } => row_is(content, RowState::Here) && entry_is(entry, EntryKind::Free),
-        Call::Delete { entry, .. } => !entry_is(entry, EntryKind::Free),
+        Call::Record { content, entry, .. } => row_is(content, RowState::Empty) && entry_is(entry, &VACANT),
+        Call::CheckOut { content, entry } => row_is(content, RowState::Here) && entry_is(entry, &VACANT),
+        Call::CheckIn { entry, .. } => entry_is(entry, &[EntryKind::Copy]),
+        Call::MoveOut { entry, .. } => entry_is(entry, &[EntryKind::Full]),
+        Call::MoveIn { content, entry, .. } => row_is(content, RowState::Here) && entry_is(entry, &VACANT),
+        Call::Delete { entry, .. } => !entry_is(entry, &VACANT),
         Call::Tally { .. } | Call::Sheet { .. } | Call::FormatLedger { .. } | Call::FormatCard { .. } => true,
     }
 }
@@ -345,7 +348,7 @@ fn put_random_entry(random: &mut Random, tables: &mut Tables, named: &Named, ent
     let content = random.pick(&named.contents);
     let mut title = TitleHalf::written(&facts, content);
     let mut rule = RuleHalf::written(&facts, content, random.number());
-    match random.below(12) {
+    match random.below(13) {
         0 => rule = RuleHalf::read(&[0; RULE_HALF_SIZE]),
         1..=3 => rule.place.flag = false,
         4..=6 => (),
@@ -353,6 +356,10 @@ fn put_random_entry(random: &mut Random, tables: &mut Tables, named: &Named, ent
         8 => (title.place.flag, rule.place.flag) = (false, false),
         9 => title.place.flag = false,
         10 => rule.place.content_id = random.pick(&named.contents),
+        11 => {
+            (title.place.flag, title.place.content_id) = (false, random.pick(&STALE_IDS));
+            rule.place.flag = random.chance(30);
+        }
         _ => (title.place.content_id, rule.place.content_id) = (random.pick(&[0, content]), 0),
     }
     if random.chance(15) {

@@ -1,4 +1,4 @@
-//! Compares the library with an implementation of its own of document 01 and of requests W1 to W6 of document 02, by fields
+//! Compares the library with an implementation of its own of document 01 and of requests W1 to W7 of document 02, by fields
 //! and structures, on many inputs, with tables of either pair.
 //!
 //! compare calls COUNT SEED: at least so many calls. compare seconds N SEED: round after round, each with a seed of its

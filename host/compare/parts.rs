@@ -115,8 +115,8 @@ pub fn full_card(run: &mut Run, pair: Pair) -> Result<(), String> {
     check(run, &mut sides, &counts)
 }
 
-/// A move in with the first copy in each entry. Before it are entries that have been copies of the title, or are copies of another;
-/// behind it are copies of it.
+/// A move in, to a free entry or a spent one, with the first copy in each entry. Before it are entries that have been copies of the
+/// title, or are copies of another; behind it are copies of it.
 pub fn every_first_copy(run: &mut Run, pair: Pair) -> Result<(), String> {
     (run.part, run.round) = ("first copies", pair as u64);
     let mut random = Random::new(run.seed, run.part, run.round);
@@ -132,6 +132,9 @@ pub fn every_first_copy(run: &mut Run, pair: Pair) -> Result<(), String> {
         // any entry but the first copy's
         let entry = 1 + (first - 1 + random.one_to(LAST_ENTRY - 1)) % LAST_ENTRY;
         let mut lent = tables.clone();
+        if random.chance(50) {
+            lent.put_title_half(entry, &wiped);
+        }
         for other in (1..=LAST_ENTRY).filter(|other| *other != entry) {
             if other == first || random.chance(10) {
                 lent.put_title_half(other, &if other < first { random.pick(&before) } else { copy });
@@ -192,7 +195,8 @@ pub fn varied(run: &mut Run, round: u64) -> Result<(), String> {
 const CONTENT: u64 = 3;
 const ROWS: u64 = 5;
 
-/// Tables in which some calls are done, and those calls. One title and one entry are in them.
+/// Tables in which some calls are done, and those calls. One title and one entry are in them; another title was, where the entry is
+/// spent.
 struct Situation {
     pair: Pair,
     tables: Tables,
@@ -226,7 +230,17 @@ fn done_call(random: &mut Random, pair: Pair, tables: &Tables, named: &Named, op
     call
 }
 
-/// A title not granted, here, lent, and away, with the calls that are done then.
+/// What a move out or delete of title 999 leaves. Another low byte makes its ID 1000, or 1023.
+fn spent_halves(random: &mut Random) -> Halves {
+    let facts = inputs::facts(random);
+    let (mut title, mut rule) = (TitleHalf::written(&facts, 999), RuleHalf::written(&facts, 999, random.number()));
+    title.wipe(random.number());
+    rule.wipe(random.number(), random.number(), random.number());
+    (Some(title), Some(rule))
+}
+
+/// A title not granted, here, lent, and away, with the calls that are done then. Where the call is to put it to an entry, that one is
+/// free or spent.
 fn situations(random: &mut Random, pair: Pair) -> Vec<Situation> {
     use Operation::{CheckIn, CheckOut, Delete, MoveIn, MoveOut, Record, Register, Sheet, Tally};
     let (rights, permits) = (random.one_to(15), random.one_to(13));
@@ -234,12 +248,15 @@ fn situations(random: &mut Random, pair: Pair) -> Vec<Situation> {
     let here = Row::here(facts);
     let title = Some(TitleHalf::written(&facts, CONTENT));
     let rule = Some(RuleHalf::written(&facts, CONTENT, random.number()));
+    let spent = spent_halves(random);
     let mut lent = situation(random, pair, here, (title, None), &[CheckIn, Delete, Tally, Sheet]);
     // With a copy out, a move in to another entry is refused.
     lent.calls.push(Call::MoveIn { content: CONTENT, entry: 1 + lent.entry % LAST_ENTRY, hash: random.number() });
     vec![
         situation(random, pair, Row::empty(), (None, None), &[Register, Record, Tally, Sheet]),
+        situation(random, pair, Row::empty(), spent, &[Record, Sheet]),
         situation(random, pair, here, (None, None), &[CheckOut, MoveIn, Tally, Sheet]),
+        situation(random, pair, here, spent, &[CheckOut, MoveIn, Sheet]),
         lent,
         situation(random, pair, Row::away(), (title, rule), &[MoveOut, Delete, Tally, Sheet]),
     ]

@@ -1,5 +1,5 @@
-//! The closing sheet, by request W2 of document 02: a line for each row that is not empty, and the totals of the lines. The card
-//! is gone over once, for all rows together.
+//! The closing sheet, by requests W2 and W7 of document 02: a line for each row that is not empty, the totals of the lines, and the
+//! number of spent entries. The card is gone over once for all rows together, and once for the spent entries.
 
 use std::fmt::Write;
 
@@ -23,6 +23,13 @@ pub struct Line {
 pub struct Totals {
     pub permits: u64,
     pub copies: u64,
+}
+
+/// What a sheet says: its lines, the line of the totals, and the last.
+pub struct Sheet {
+    pub lines: Vec<Line>,
+    pub totals: Totals,
+    pub spent: u64,
 }
 
 impl Line {
@@ -60,15 +67,17 @@ pub fn text(tables: &Tables) -> String {
     }
     let Totals { permits, copies } = Totals::of(&lines);
     writeln!(text, "total {permits} {copies}").unwrap();
+    writeln!(text, "spent {}", tables.spent()).unwrap();
     text
 }
 
-/// What a sheet says, where it is one: its lines, and the totals in the last.
-pub fn read(text: &str) -> Option<(Vec<Line>, Totals)> {
-    let (text, last) = text.strip_suffix('\n')?.rsplit_once("total ")?;
+/// What a text says, where it is a sheet.
+pub fn read(text: &str) -> Option<Sheet> {
+    let (text, last) = text.strip_suffix('\n')?.rsplit_once("\nspent ")?;
+    let (text, totals) = text.rsplit_once("total ")?;
     let lines: Option<Vec<Line>> = text.lines().map(read_line).collect();
-    let [permits, copies] = numbers(last)?;
-    Some((lines?, Totals { permits, copies }))
+    let ([permits, copies], [spent]) = (numbers(totals)?, numbers(last)?);
+    Some(Sheet { lines: lines?, totals: Totals { permits, copies }, spent })
 }
 
 fn read_line(line: &str) -> Option<Line> {

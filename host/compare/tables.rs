@@ -86,6 +86,11 @@ impl FlagAndContentId {
     pub fn usable(&self) -> bool {
         self.flag && self.content_id != 0
     }
+
+    /// "flag 0 and an ID from 1 to 999", as the title half of a spent entry has them.
+    fn stale(&self) -> bool {
+        !self.flag && (1..=999).contains(&self.content_id)
+    }
 }
 
 /// An entry's part of the title table.
@@ -201,7 +206,11 @@ pub enum EntryKind {
     Copy,
     Full,
     Torn,
+    Spent,
 }
+
+/// "Calls that needed a free entry accept free or spent"
+pub const VACANT: [EntryKind; 2] = [EntryKind::Free, EntryKind::Spent];
 
 #[derive(Clone, Copy, Debug, PartialEq)]
 pub struct Entry {
@@ -216,6 +225,7 @@ impl Entry {
         let wrong_rule = rule.usable() && rule.content_id > 999;
         match (title.usable(), rule.usable()) {
             _ if wrong_title || wrong_rule => EntryKind::Torn,
+            (false, false) if title.stale() => EntryKind::Spent,
             (false, false) => EntryKind::Free,
             (true, false) => EntryKind::Copy,
             (true, true) if title.content_id == rule.content_id => EntryKind::Full,
@@ -551,12 +561,17 @@ impl Tables {
         half.write(&mut self.rules[start..start + RULE_HALF_SIZE]);
     }
 
-    /// The entries with a usable title half, by their numbers and in their order. Without one, as on most of a card, an entry is no
-    /// copy and not full, and need not be read.
-    fn entries_with_title(&self) -> impl Iterator<Item = (u64, Entry)> + '_ {
+    /// The entries whose title half passes this, by their numbers and in their order. The others, mostly most of a card, need not be
+    /// read.
+    fn entries_by_title(&self, passes: fn(&FlagAndContentId) -> bool) -> impl Iterator<Item = (u64, Entry)> + '_ {
         let halves = self.titles.chunks_exact(TITLE_HALF_SIZE).zip(0..);
-        let usable = halves.filter(|(half, _)| FlagAndContentId::read(&half[8..]).usable());
-        usable.filter_map(|(_, j)| Some((j, self.entry(j)?)))
+        let passing = halves.filter(move |(half, _)| passes(&FlagAndContentId::read(&half[8..])));
+        passing.filter_map(|(_, j)| Some((j, self.entry(j)?)))
+    }
+
+    /// Without a usable title half an entry is no copy and not full.
+    fn entries_with_title(&self) -> impl Iterator<Item = (u64, Entry)> + '_ {
+        self.entries_by_title(FlagAndContentId::usable)
     }
 
     /// The numbers of the entries that are copies with this content ID, in their order.
@@ -575,6 +590,12 @@ impl Tables {
         self.copies_of(content_id).next()
     }
 
+    /// The number of spent entries.
+    pub fn spent(&self) -> u64 {
+        let with_title = self.entries_by_title(FlagAndContentId::stale);
+        with_title.filter(|(_, entry)| entry.kind() == EntryKind::Spent).count() as u64
+    }
+
     /// What the card has of each content ID that it has anything of, by one pass over its entries.
     pub fn on_card(&self) -> HashMap<u64, OnCard> {
         let mut on_card: HashMap<u64, OnCard> = HashMap::new();
@@ -582,7 +603,7 @@ impl Tables {
             match entry.kind() {
                 EntryKind::Copy => on_card.entry(entry.content_id()).or_default().copies.push(entry.title.cci),
                 EntryKind::Full => on_card.entry(entry.content_id()).or_default().full.push(entry.facts()),
-                EntryKind::Free | EntryKind::Torn => (),
+                EntryKind::Free | EntryKind::Torn | EntryKind::Spent => (),
             }
         }
         on_card

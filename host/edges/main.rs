@@ -112,6 +112,7 @@ fn layer_cases() {
     row_writers();
     remainder_cases();
     streams();
+    spent_streams();
     move_in::cases();
     preview::cases();
     no_cases();
@@ -337,6 +338,47 @@ fn entry_cases() {
             entry(&half_form(2, KEY, 4)[..title_length], rule)
         });
     }
+    limit_cases();
+    short_cases();
+    wiped_cases();
+}
+
+// IDs at and past the limits of those with which an entry is spent, in halves with either flag. A rule half may end behind its ID.
+fn limit_cases() {
+    let ids = [0, 1, 999, 1000, 1023];
+    let halves: Vec<(u8, u64)> = [0, 1].into_iter().flat_map(|flag| ids.map(|id| (flag, id))).collect();
+    for (title_flag, title_id) in &halves {
+        for first in [0, 1] {
+            for (rule_flag, rule_id) in &halves {
+                let mut title = half_form(first, KEY, *title_id);
+                let mut rule = half_form(0, STI, *rule_id);
+                title[8] = 128 * title_flag;
+                rule[8] = 128 * rule_flag;
+                entry(&title, &rule);
+            }
+        }
+    }
+}
+
+// Title halves with flag 0 that may end inside their ID or before it, beside a rule half that is usable where it is whole.
+fn short_cases() {
+    for id in [1, 4 + 256, 999] {
+        for title_length in [0, 8, 9, 14, 15, 16] {
+            for rule_length in [0, 15, 16] {
+                entry(&wiped(&half_form(2, KEY, id), FILLERS[0])[..title_length], &half_form(0, STI, 4)[..rule_length]);
+            }
+        }
+    }
+}
+
+// What a wipe leaves, and every bit of it behind the key turned.
+fn wiped_cases() {
+    entry(&wiped(&half_form(2, KEY, 999), FILLERS[0]), &[]);
+    for at in 8 * 8..8 * 16 {
+        let mut title = wiped(&half_form(2, KEY, 999), FILLERS[0]);
+        title[at / 8] ^= 1 << (at % 8);
+        entry(&title, &[]);
+    }
 }
 
 // ---------------------------------------------------------------- heads
@@ -556,8 +598,12 @@ fn stream_of(pair: Pair, requests: &[u8]) {
     ["rows", "titles", "rules"].iter().zip(shop.shown()).fold(case, |case, (name, s)| case.bytes(name, &s)).end();
 }
 
+// Requests by kind, content ID and entry number.
+fn list(calls: &[(u64, u64, u64)]) -> Vec<u8> {
+    calls.iter().flat_map(|(kind, c, j)| request(*kind, *c, *j)).collect()
+}
+
 fn streams() {
-    let list = |calls: &[(u64, u64, u64)]| calls.iter().flat_map(|(kind, c, j)| request(*kind, *c, *j)).collect::<Vec<u8>>();
     // The paper's input, with entries that are shown, cut at each byte.
     let paper = [
         0x01, 0x01, 0x02, 0x00, 0x01, 0x01, 0x05, 0x06, 0x03, 0x01, 0x02, 0x03, 0x01, 0x03, 0x06, 0x01, 0x04, 0x00, 0x04, 0x02,
@@ -588,6 +634,19 @@ fn streams() {
     // What stops the reading, after a request that is carried out, and with one behind it that is not.
     for fault in FAULTS {
         stream(&[&request(1, 1, 0), fault, &request(3, 1, 1)].concat());
+    }
+}
+
+// Each call that puts a title to an entry, at one that is spent: by a check-in, move out or delete of another title.
+fn spent_streams() {
+    let spent: [&[(u64, u64, u64)]; 4] = [
+        &[(1, 4, 0), (3, 4, 1), (4, 0, 1)], &[(2, 4, 1), (5, 0, 1)], &[(1, 4, 0), (3, 4, 1), (7, 0, 1)], &[(2, 4, 1), (7, 0, 1)],
+    ];
+    for before in spent {
+        stream(&list(before));
+        for put in [&[(2, 3, 1)][..], &[(1, 3, 0), (3, 3, 1)], &[(1, 3, 0), (6, 3, 1)]] {
+            stream(&list(&[before, put].concat()));
+        }
     }
 }
 

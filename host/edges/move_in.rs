@@ -124,12 +124,12 @@ fn fronts() {
         s[8] = 128 * flag;
         s
     };
-    let free = half(0, 0, 4);
+    let spent = half(0, 0, 4);
     let titles = |halves: &[&[u8]]| [&vec![FILL; 16], &halves.concat()[..]].concat();
     let copy = half(1, 2, 4);
     let full = rule_form(PLAIN, HASH, 4);
     for n in 0..7 {
-        let halves: Vec<&[u8]> = (0..7).map(|i| if i < n { &free[..] } else { &copy[..] }).collect();
+        let halves: Vec<&[u8]> = (0..7).map(|i| if i < n { &spent[..] } else { &copy[..] }).collect();
         search(4, &titles(&halves), &[]);
         // a usable rule half beside the first one, and tables that end inside it
         let mut rules = vec![0; 32 * (n + 1)];

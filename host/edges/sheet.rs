@@ -1,4 +1,4 @@
-// A row's line on the closing sheet, and the totals, of ledgers and cards of which only the front is there.
+// A row's line on the closing sheet, the totals and the number of spent entries, of ledgers and cards of which only the front is there.
 
 use crate::tables::*;
 use crate::{Case, FILL, KEY, MOST, PLAIN, TOP};
@@ -28,6 +28,10 @@ impl Tables<'_> {
         };
         (1..=999).filter(is).collect()
     }
+    fn spent(&self) -> u64 {
+        let is = |j: &usize| kind(part(self.titles, 16 * j, 16), part(self.rules, 32 * j, 32)) == 4;
+        (1..=999).filter(is).count() as u64
+    }
     // Row, state, permits, rights, copies. A row in no state shows its byte 0.
     fn line(&self, c: u64) -> [u64; 5] {
         let copies = self.entries(1, c).len() as u64;
@@ -46,18 +50,19 @@ impl Tables<'_> {
         };
         [c, field(row, 0, 1), permits, rights, copies]
     }
-    // The sums over the rows that are not empty, and how many bytes all lines have.
-    fn totals(&self) -> [u64; 3] {
+    // The sums over the rows that are not empty, the spent entries, and how many bytes all lines have.
+    fn totals(&self) -> [u64; 4] {
         let empty = |c: &u64| row_state(part(self.ledger, 24 * *c as usize, 24)) == 0;
         let lines: Vec<[u64; 5]> = (1..=self.rows()).filter(|c| !empty(c)).map(|c| self.line(c)).collect();
         let sum = |of: fn(&[u64; 5]) -> u64| lines.iter().map(of).sum::<u64>();
         let permits = sum(|line| if line[2] == 15 { 0 } else { line[2] });
         let copies = sum(|line| line[4]);
-        let mut text = format!("total {permits} {copies}\n");
+        let spent = self.spent();
+        let mut text = format!("total {permits} {copies}\nspent {spent}\n");
         for line in &lines {
             text += &(line.map(|n| n.to_string()).join(" ") + "\n");
         }
-        [permits, copies, text.len() as u64]
+        [permits, copies, spent, text.len() as u64]
     }
 }
 
@@ -67,7 +72,7 @@ fn case(c: u64, ledger: &[u8], titles: &[u8], rules: &[u8]) {
     let case = Case::new("sheet", 0x31, &lengths, &[ledger, titles, rules].concat());
     let names = ["row", "state", "permits", "rights", "copies"];
     let case = names.iter().zip(tables.line(c)).fold(case, |case, (name, x)| case.number(name, x));
-    let sums = ["total-permits", "total-copies", "length"];
+    let sums = ["total-permits", "total-copies", "spent", "length"];
     sums.iter().zip(tables.totals()).fold(case, |case, (name, x)| case.number(name, x)).end();
 }
 
@@ -81,7 +86,50 @@ fn entry(c: u64, facts: Option<Facts>) -> (Vec<u8>, Vec<u8>) {
     (half_form(2, KEY, c), rule)
 }
 
+// A half with a reserved bit set beside its flag, so often behind a head.
+fn halves(flag: u8, id: u64, count: usize) -> Vec<u8> {
+    let mut s = half_form(1, KEY, id);
+    s[8] = 128 * flag + 1;
+    [vec![FILL; 16], s.repeat(count)].concat()
+}
+
+// A title that is here, beside this front of a card.
+fn of_card(titles: &[u8], rules: &[u8]) {
+    case(1, &[&ledger_head(1, 0)[..], &row(1, PLAIN)].concat(), titles, rules);
+}
+
+// Entries that are spent and such that are not, beside rule halves that are usable and such that are not, and as many as make their
+// number longer.
+fn spent_cases() {
+    for (flag, id) in [(0, 0), (0, 1), (0, 512), (0, 999), (0, 1000), (0, 1023), (1, 0), (1, 1)] {
+        for count in [1, 9, 10] {
+            of_card(&halves(flag, id, count), &[]);
+        }
+        for (rule_flag, rule_id) in [(0, 1), (1, 0), (1, 1), (1, 1000)] {
+            let rules = [vec![FILL; 16], halves(rule_flag, rule_id, 1), vec![0; 16]].concat();
+            of_card(&halves(flag, id, 2), &rules);
+        }
+    }
+    for count in [99, 100, 998, 999] {
+        of_card(&halves(0, 999, count), &[]);
+    }
+}
+
+// Tables that end inside a half of an entry that is spent, or would be.
+fn spent_fronts() {
+    let titles = halves(0, 1, 2);
+    for length in [0, 16, 31, 32, 33, 47] {
+        of_card(&titles[..length], &[]);
+    }
+    let rules = [vec![FILL; 32], rule_form(PLAIN, 0, 1).repeat(2)].concat();
+    for length in [32, 47, 48, 63, 64, 79, 80, 96] {
+        of_card(&titles, &rules[..length]);
+    }
+}
+
 pub fn cases() {
+    spent_cases();
+    spent_fronts();
     let few = Facts { permits: 3, rights: 5, ..PLAIN };
     let rows = [row(1, PLAIN), row(2, NO_FACTS), row(3, PLAIN), row(1, MOST), row(0, PLAIN), row(2, PLAIN), row(9, PLAIN)];
     let ledger = [&ledger_head(7, 0)[..], &rows.concat()].concat();

@@ -34,6 +34,7 @@ const AWAY: u64 = 2;
 const FREE: u64 = 0;
 const COPY: u64 = 1;
 const FULL: u64 = 2;
+const SPENT: u64 = 4;
 
 impl Shop {
     pub fn fresh(pair: Pair) -> Shop {
@@ -124,6 +125,8 @@ impl Shop {
         let j = if call == 1 { 0 } else if matches!(call, 2 | 3 | 6) { a[1] } else { a[0] };
         let (title, rule) = (&self.titles[j as usize], &self.rules[j as usize]);
         let kind = self.kind(j);
+        // "Calls that needed a free entry accept free or spent"
+        let vacant = kind == FREE || kind == SPENT;
         let c = if matches!(call, 1 | 2 | 3 | 6) { a[0] } else { id(title) };
         let f = match call {
             3 | 4 | 6 if self.is(c, HERE) => self.row_facts(c),
@@ -137,14 +140,14 @@ impl Shop {
         let may_not_move = f.trigger == 1 || f.rights == 0;
         let conditions = match call {
             1 => vec![(11, !self.is(c, EMPTY))],
-            2 => vec![(10, kind != FREE), (11, !self.is(c, EMPTY))],
-            3 => vec![(10, kind != FREE), (11, !self.is(c, HERE)), (12, f.permits == 0)],
+            2 => vec![(10, !vacant), (11, !self.is(c, EMPTY))],
+            3 => vec![(10, !vacant), (11, !self.is(c, HERE)), (12, f.permits == 0)],
             4 => vec![(10, kind != COPY), (11, !self.is(c, HERE)), (15, f.permits == 14), (16, leaves(0, title))],
             5 => vec![
                 (10, kind != FULL), (11, !self.is(c, AWAY)), (12, may_not_move), (13, a[1] != hash(rule)),
                 (16, leaves(0, title) || leaves_sti()),
             ],
-            6 => vec![(10, kind != FREE), (11, !self.is(c, HERE)), (12, may_not_move), (14, self.first_copy(c).is_some())],
+            6 => vec![(10, !vacant), (11, !self.is(c, HERE)), (12, may_not_move), (14, self.first_copy(c).is_some())],
             _ => vec![
                 (10, kind != COPY && kind != FULL), (11, kind == FULL && !self.is(c, AWAY)),
                 (16, leaves(0, title) || kind == FULL && leaves_sti()),

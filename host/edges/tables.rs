@@ -1,7 +1,7 @@
 // Rows, halves and heads: what they are by their bytes, and the bytes that writing makes of them.
 //
 // A part may have any length. A missing byte reads as 0 and a field ends where its bytes end, but a half of fewer than 16
-// bytes is not usable, and a row of another length than 24 is in no state.
+// bytes is neither usable nor that of a spent entry, and a row of another length than 24 is in no state.
 
 pub const KEY_LIMIT: u64 = 1 << 56;
 
@@ -105,13 +105,19 @@ pub fn wiped_rule(s: &[u8], fillers: [u64; 4]) -> Vec<u8> {
     out
 }
 
-// 0 free, 1 copy, 2 full, 3 torn.
+// "a title half with flag 0 and an ID from 1 to 999"
+fn stale(s: &[u8]) -> bool {
+    s.len() >= 16 && flag(s) == 0 && (1..=999).contains(&id(s))
+}
+
+// 0 free, 1 copy, 2 full, 3 torn, 4 spent.
 pub fn kind(title: &[u8], rule: &[u8]) -> u64 {
     let stray = |s: &[u8]| usable(s) && id(s) > 999;
     if stray(title) || stray(rule) || (usable(title) && cci(title) == 1) {
         return 3;
     }
     match (usable(title), usable(rule)) {
+        (false, false) if stale(title) => 4,
         (false, false) => 0,
         (true, false) => 1,
         (true, true) if id(title) == id(rule) => 2,

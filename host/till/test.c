@@ -1,7 +1,7 @@
 /*
  * Tests libtill.a through music_counter.h, call by call, against document 01 and, for picture tables, the closing sheet, the
- * CCI of copies, what a move in reports and previews, requests W1 to W6 of document 02. All that is lent tables runs twice,
- * with those of either pair. Each call that can be a request in numbers is also made as one, and previewed.
+ * CCI of copies, what a move in reports, previews and spent entries, requests W1 to W7 of document 02. All that is lent tables
+ * runs twice, with those of either pair. Each call that can be a request in numbers is also made as one, and previewed.
  *
  * Before each call the test knows every byte of the buffers; after it, it knows every byte that the paper wants there, since
  * it sets them itself, field by field. All bytes are compared after every call, and so are the guard bytes
@@ -295,18 +295,27 @@ static uint64_t one_more(uint64_t count)
 
 /* ---------------------------------------------------------------- the sheet, from document 02 */
 
-enum kind { FREE, COPY, FULL, TORN, NO_ENTRY };
+/* The last two are no kinds, but what functions need: an entry with no half usable, and none. */
+enum kind { FREE, COPY, FULL, TORN, SPENT, VACANT, NO_ENTRY };
 enum state { EMPTY, HERE, AWAY, GONE, NO_STATE, ANY_STATE };
 
-/* "free, no half usable; copy, only the title half usable; full, both usable with equal IDs; torn, anything else" */
+static int usable(uint64_t flag, uint64_t id)
+{
+    return flag == 1 && id != 0;
+}
+
+/*
+ * "copy, only the title half usable; full, both usable with equal IDs; torn, anything else", by document 01. By W7 "spent: no half
+ * usable, and a title half with flag 0 and an ID from 1 to 999. Free now means no half usable and not spent."
+ */
 static enum kind kind_of(uint64_t title_flag, uint64_t title_id, uint64_t cci, uint64_t rule_flag, uint64_t rule_id)
 {
-    int title = title_flag == 1 && title_id != 0, rule = rule_flag == 1 && rule_id != 0;
+    int title = usable(title_flag, title_id), rule = usable(rule_flag, rule_id);
 
     if ((title && (title_id > 999 || cci == 1)) || (rule && rule_id > 999))
         return TORN;
     if (!title && !rule)
-        return FREE;
+        return title_flag == 0 && 1 <= title_id && title_id <= 999 ? SPENT : FREE;
     if (title && !rule)
         return COPY;
     return title && title_id == rule_id ? FULL : TORN;
@@ -325,9 +334,11 @@ static enum kind kind_at(size_t j)
                    get(&rules, 32 * j + 8, 1) / 128, get(&rules, 32 * j + 14, 2) % 1024);
 }
 
-/* From the last entry on, so that the first full one of a title has the last word. */
-static void look_at_card(struct on_card on_card[1024])
+/* From the last entry on, so that the first full one of a title has the last word. Answers how many entries are spent. */
+static unsigned look_at_card(struct on_card on_card[1024])
 {
+    unsigned spent = 0;
+
     memset(on_card, 0, 1024 * sizeof on_card[0]);
     for (size_t j = 999; j >= 1; j--) {
         uint64_t id = id_at(j);
@@ -339,7 +350,9 @@ static void look_at_card(struct on_card on_card[1024])
             on_card[id].permits = get(&rules, 32 * j + 17, 1) % 16;
             on_card[id].rights = (unsigned)get(&rules, 32 * j + 17, 1) / 16;
         }
+        spent += kind == SPENT;
     }
+    return spent;
 }
 
 /* The sheet of the tables as they are wanted; a 0 ends it here. */
@@ -347,10 +360,9 @@ static const char *sheet(void)
 {
     static char out[COUNTER_SHEET_SIZE + 1];
     struct on_card on_card[1024];
-    unsigned all_permits = 0, all_copies = 0;
+    unsigned all_permits = 0, all_copies = 0, spent = look_at_card(on_card);
     int length = 0;
 
-    look_at_card(on_card);
     for (unsigned c = 1; 24 * (c + 1) <= ledger.length; c++) {
         const uint8_t *row = wanted(&ledger) + 24 * c;
         unsigned permits = 0, rights = 0;
@@ -369,7 +381,7 @@ static const char *sheet(void)
         all_permits += permits != 15 ? permits : 0;
         all_copies += on_card[c].copies;
     }
-    sprintf(out + length, "total %u %u\n", all_permits, all_copies);
+    sprintf(out + length, "total %u %u\nspent %u\n", all_permits, all_copies, spent);
     return out;
 }
 
@@ -610,18 +622,18 @@ static const struct function functions[] = {
     {"format ledger", ready_format, call_format_ledger, after_format_ledger, NO_ENTRY, ANY_STATE, {4, 7}, 0},
     {"format card", ready_format, call_format_card, after_format_card, NO_ENTRY, ANY_STATE, {8, 9}, 0},
     {"register", ready_empty, call_register, after_register, NO_ENTRY, EMPTY, {4, 6, 7, 11}, COUNTER_REGISTER},
-    {"record", ready_empty, call_record, after_record, FREE, EMPTY, {4, 5, 6, 7, 8, 9, 10, 11}, COUNTER_RECORD},
-    {"check-out", ready_here, call_check_out, after_check_out, FREE, HERE, {4, 5, 7, 8, 9, 10, 11, 12}, COUNTER_CHECK_OUT},
+    {"record", ready_empty, call_record, after_record, VACANT, EMPTY, {4, 5, 6, 7, 8, 9, 10, 11}, COUNTER_RECORD},
+    {"check-out", ready_here, call_check_out, after_check_out, VACANT, HERE, {4, 5, 7, 8, 9, 10, 11, 12}, COUNTER_CHECK_OUT},
     {"check-in", ready_copy, call_check_in, after_check_in, COPY, HERE, {5, 7, 8, 9, 10, 11, 15, 16}, COUNTER_CHECK_IN},
     {"move out", ready_full, call_move_out, after_move_out, FULL, AWAY, {5, 7, 8, 9, 10, 11, 12, 13, 16}, COUNTER_MOVE_OUT},
-    {"move in", ready_here, call_move_in, after_move_in, FREE, HERE, {4, 5, 7, 8, 9, 10, 11, 12, 14}, COUNTER_MOVE_IN},
+    {"move in", ready_here, call_move_in, after_move_in, VACANT, HERE, {4, 5, 7, 8, 9, 10, 11, 12, 14}, COUNTER_MOVE_IN},
     {"delete of a copy", ready_copy, call_delete, after_delete_copy, COPY, ANY_STATE, {5, 7, 8, 9, 10, 16}, COUNTER_DELETE},
     {"delete of a full entry", ready_full, call_delete, after_delete_full, FULL, AWAY, {5, 7, 8, 9, 10, 11, 16},
      COUNTER_DELETE},
     {"tally", ready_tally, call_tally, after_tally, NO_ENTRY, ANY_STATE, {4, 8, 9}, 0},
     {"sheet", ready_copy, call_sheet, after_sheet, NO_ENTRY, ANY_STATE, {7, 8, 9, 1}, 0},
     /* a check-out whose kind is an argument too */
-    {"perform", ready_here, call_perform, after_check_out, FREE, HERE, {3, 4, 5, 7, 8, 9, 10, 11, 12}, 0},
+    {"perform", ready_here, call_perform, after_check_out, VACANT, HERE, {3, 4, 5, 7, 8, 9, 10, 11, 12}, 0},
     {"preview", ready_preview, call_preview, after_preview, NO_ENTRY, ANY_STATE, {17, 18}, 0},
 };
 
@@ -1201,32 +1213,38 @@ static void formatting_anew(void)
 
 /* ---------------------------------------------------------------- entries and rows */
 
-/* Each entry of flags and IDs, for each function that needs a kind. A call that finds its kind finds its row too. */
+/* No title, the title of the row and another, and the limits of the IDs of titles. */
+static const uint64_t ids[] = {0, 1, 5, 6, 999, 1000, 1023};
+
+/*
+ * Each entry of flags and IDs, for each function that needs a kind. A call that finds its kind finds its row too if that is row 5.
+ * "Calls that needed a free entry accept free or spent, so no earlier answer changes": they need what free was before.
+ */
 static void kinds_of(const struct function *f, uint64_t title_flag, uint64_t title_id, uint64_t cci)
 {
-    static const uint64_t ids[] = {0, 5, 6, 999, 1000, 1023};
-
     for (uint64_t rule_flag = 0; rule_flag < 2; rule_flag++)
         for (size_t k = 0; k < COUNT_OF(ids); k++) {
             enum kind kind = kind_of(title_flag, title_id, cci, rule_flag, ids[k]);
+            int no_half_usable = !usable(title_flag, title_id) && !usable(rule_flag, ids[k]);
+            int other_row = f->kind != VACANT && f->state != ANY_STATE && title_id != 5;
 
             begin(f, 64, 5, 7);
-            a.cci = f->kind == FREE ? a.cci : cci;
+            a.cci = f->kind == VACANT ? a.cci : cci;
             halves(7, title_flag, title_id, rule_flag, ids[k]);
             put(&titles, 16 * 7, 1, cci);
             if (f->kind == COPY && kind == FULL && f->call == call_delete)
                 CHECK(f, 11);
             else if (f->kind == FULL && kind == COPY && f->call == call_delete)
                 CHECK(named("delete of a copy"), 0);
+            else if (f->kind == VACANT ? no_half_usable : kind == f->kind)
+                CHECK(f, other_row ? 11 : 0);
             else
-                CHECK(f, kind == f->kind ? 0 : 10);
+                CHECK(f, 10);
         }
 }
 
 static void kinds(void)
 {
-    static const uint64_t ids[] = {0, 5, 1000};
-
     for (size_t i = 0; i < FUNCTIONS; i++)
         for (uint64_t title_flag = 0; title_flag < 2 && functions[i].kind != NO_ENTRY; title_flag++)
             for (size_t k = 0; k < COUNT_OF(ids); k++)
@@ -1327,11 +1345,11 @@ static void reserved_bits(void)
         begin(f, 64, 5, 7);
         set_reserved_bits(7);
         CHECK(f, 0);
-        /* stale IDs with flag 0, and any key */
-        if (f->kind == FREE) {
+        /* stale IDs with flag 0, of which 999 is the last of a spent entry, and any key */
+        for (uint64_t id = 998; id < 1024 && f->kind == VACANT; id++) {
             begin(f, 64, 5, 7);
             put(&titles, 16 * 7, 8, TOP);
-            put(&titles, 16 * 7 + 8, 8, TOP >> 1);
+            put(&titles, 16 * 7 + 8, 8, (TOP >> 1) - 1023 + id);
             put(&rules, 32 * 7, 8, TOP);
             put(&rules, 32 * 7 + 8, 8, TOP >> 1);
             put(&rules, 32 * 7 + 16, 8, TOP);
@@ -1654,22 +1672,22 @@ static void sheets_of_rows(void)
 
     for (size_t k = 0; k < COUNT_OF(rows); k++) {
         fresh(rows[k]);
-        WANT_SHEET("total 0 0\n");
+        WANT_SHEET("total 0 0\nspent 0\n");
     }
     fresh(1);
     here(1, 3, 2);
-    WANT_SHEET("1 1 3 2 0\ntotal 3 0\n");
+    WANT_SHEET("1 1 3 2 0\ntotal 3 0\nspent 0\n");
     fresh(64);
     here(64, 1, 0);
     here(1, 0, 1);
-    WANT_SHEET("1 1 0 1 0\n64 1 1 0 0\ntotal 1 0\n");
+    WANT_SHEET("1 1 0 1 0\n64 1 1 0 0\ntotal 1 0\nspent 0\n");
     fresh(999);
     here(9, 9, 10);
     here(10, 10, 9);
     here(99, 14, 15);
     here(100, 15, 14);
     here(999, 0, 0);
-    WANT_SHEET("9 1 9 10 0\n10 1 10 9 0\n99 1 14 15 0\n100 1 15 14 0\n999 1 0 0 0\ntotal 33 0\n");
+    WANT_SHEET("9 1 9 10 0\n10 1 10 9 0\n99 1 14 15 0\n100 1 15 14 0\n999 1 0 0 0\ntotal 33 0\nspent 0\n");
 }
 
 /* "For an away title permits and rights are those on the card": in its first full entry, 0 where there is none. */
@@ -1678,38 +1696,38 @@ static void sheets_of_away_titles(void)
     fresh(64);
     plain_row(5, 2);
     facts_left_behind(5);
-    WANT_SHEET("5 2 0 0 0\ntotal 0 0\n");
+    WANT_SHEET("5 2 0 0 0\ntotal 0 0\nspent 0\n");
     full(8, 6, 2, 1); /* another title's entry */
-    WANT_SHEET("5 2 0 0 0\ntotal 0 0\n");
+    WANT_SHEET("5 2 0 0 0\ntotal 0 0\nspent 0\n");
     title_half(999, 5);
-    WANT_SHEET("5 2 0 0 1\ntotal 0 1\n");
+    WANT_SHEET("5 2 0 0 1\ntotal 0 1\nspent 0\n");
     full(999, 5, 15, 0);
-    WANT_SHEET("5 2 15 0 0\ntotal 0 0\n");
+    WANT_SHEET("5 2 15 0 0\ntotal 0 0\nspent 0\n");
     full(7, 5, 4, 3);
-    WANT_SHEET("5 2 4 3 0\ntotal 4 0\n");
+    WANT_SHEET("5 2 4 3 0\ntotal 4 0\nspent 0\n");
     full(9, 5, 9, 8);
-    WANT_SHEET("5 2 4 3 0\ntotal 4 0\n");
+    WANT_SHEET("5 2 4 3 0\ntotal 4 0\nspent 0\n");
     full(1, 5, 14, 15);
-    WANT_SHEET("5 2 14 15 0\ntotal 14 0\n");
+    WANT_SHEET("5 2 14 15 0\ntotal 14 0\nspent 0\n");
     put_byte(&titles, 16 * 1, 1); /* torn by its CCI */
-    WANT_SHEET("5 2 4 3 0\ntotal 4 0\n");
+    WANT_SHEET("5 2 4 3 0\ntotal 4 0\nspent 0\n");
     full(2, 5, 14, 15);
     halves(2, 1, 5, 1, 6); /* torn by its IDs */
     full(3, 5, 14, 15);
     halves(3, 0, 5, 1, 5); /* torn, with a rule half alone */
     full(4, 5, 14, 15);
-    halves(4, 0, 5, 0, 5); /* free, with the IDs that it had */
-    WANT_SHEET("5 2 4 3 0\ntotal 4 0\n");
+    halves(4, 0, 5, 0, 5); /* spent, with the IDs that it had */
+    WANT_SHEET("5 2 4 3 0\ntotal 4 0\nspent 1\n");
     halves(6, 1, 5, 0, 5); /* a copy, whose rule half has a stale ID */
     set_reserved_bits(7);
-    WANT_SHEET("5 2 4 3 1\ntotal 4 1\n");
+    WANT_SHEET("5 2 4 3 1\ntotal 4 1\nspent 1\n");
 }
 
 /* A row that is here has its own permits and rights, and no other state any, whatever the row's bytes and the card are. */
 static void sheets_of_states(void)
 {
     for (unsigned state = 0; state < 256; state++) {
-        char expected[64] = "total 0 0\n";
+        char expected[64] = "total 0 0\nspent 0\n";
 
         fresh(64);
         full(7, 5, 4, 3);
@@ -1717,11 +1735,11 @@ static void sheets_of_states(void)
         put_byte(&ledger, 24 * 5, state);
         facts_left_behind(5);
         if (state == HERE)
-            strcpy(expected, "5 1 14 13 1\ntotal 14 1\n");
+            strcpy(expected, "5 1 14 13 1\ntotal 14 1\nspent 0\n");
         else if (state == AWAY)
-            strcpy(expected, "5 2 4 3 1\ntotal 4 1\n");
+            strcpy(expected, "5 2 4 3 1\ntotal 4 1\nspent 0\n");
         else if (state != EMPTY)
-            sprintf(expected, "5 %u 0 0 1\ntotal 0 1\n", state);
+            sprintf(expected, "5 %u 0 0 1\ntotal 0 1\nspent 0\n", state);
         WANT_SHEET(expected);
     }
 }
@@ -1739,7 +1757,7 @@ static void sheets_of_facts_out_of_range(void)
         here(5, 14, 13);
         here(6, 2, 1);
         put_byte(&ledger, 24 * 5 + out_of_range[k].at, out_of_range[k].value);
-        WANT_SHEET("5 1 0 0 0\n6 1 2 1 0\ntotal 2 0\n");
+        WANT_SHEET("5 1 0 0 0\n6 1 2 1 0\ntotal 2 0\nspent 0\n");
     }
 }
 
@@ -1750,10 +1768,10 @@ static void sheets_of_copies(void)
     here(1, 15, 15);
     for (uint64_t j = 1; j <= 999; j++)
         title_half(j, 1);
-    WANT_SHEET("1 1 15 15 999\ntotal 0 999\n");
+    WANT_SHEET("1 1 15 15 999\ntotal 0 999\nspent 0\n");
     for (uint64_t j = 2; j <= 998; j++)
         halves(j, 0, 1, 0, 0);
-    WANT_SHEET("1 1 15 15 2\ntotal 0 2\n");
+    WANT_SHEET("1 1 15 15 2\ntotal 0 2\nspent 997\n");
     for (uint64_t j = 10; j < 20; j++)
         title_half(j, 2);
     plain_row(3, 3);
@@ -1765,16 +1783,14 @@ static void sheets_of_copies(void)
     title_half(24, 999);
     halves(25, 1, 1000, 0, 0);
     halves(26, 1, 64, 1, 3);
-    WANT_SHEET("1 1 15 15 2\n3 3 0 0 1\n64 1 3 2 2\ntotal 3 5\n");
+    WANT_SHEET("1 1 15 15 2\n3 3 0 0 1\n64 1 3 2 2\ntotal 3 5\nspent 980\n");
     plain_row(2, 2);
-    WANT_SHEET("1 1 15 15 2\n2 2 0 0 10\n3 3 0 0 1\n64 1 3 2 2\ntotal 3 15\n");
+    WANT_SHEET("1 1 15 15 2\n2 2 0 0 10\n3 3 0 0 1\n64 1 3 2 2\ntotal 3 15\nspent 980\n");
 }
 
-/* Entries 7 and 8 of all flags, IDs and CCI, beside a title that is here and one that is away. */
+/* Entries 7 and 9 of all flags, IDs and CCI, beside a title that is here and one that is away; in 9 the reserved bits are set. */
 static void sheets_of_kinds(void)
 {
-    static const uint64_t ids[] = {0, 5, 6, 1000};
-
     for (unsigned flags = 0; flags < 4; flags++)
         for (size_t k = 0; k < COUNT_OF(ids) * COUNT_OF(ids); k++)
             for (uint64_t cci = 0; cci < 4; cci++) {
@@ -1787,18 +1803,92 @@ static void sheets_of_kinds(void)
                     halves(j, flags % 2, ids[k % COUNT_OF(ids)], flags / 2, ids[k / COUNT_OF(ids)]);
                     put(&titles, 16 * j, 1, cci);
                 }
+                set_reserved_bits(9);
                 CHECK(named("sheet"), 0);
             }
 }
 
+/* Up to all entries, each with another ID. Where its number gets a digit, they take turns with what no spent entry is. */
+static void sheets_of_spent(void)
+{
+    fresh(64);
+    for (unsigned j = 1; j <= 999; j++) {
+        char expected[64];
+
+        halves(j, 0, 1000 - j, 0, 0);
+        if (j % 90 > 10 && j < 998)
+            continue;
+        sprintf(expected, "total 0 0\nspent %u\n", j);
+        WANT_SHEET(expected);
+        halves(j, 0, 1000 - j, 1, 0); /* with a rule half that is not usable */
+        WANT_SHEET(expected);
+        sprintf(expected, "total 0 0\nspent %u\n", j - 1);
+        halves(j, 0, 1000 - j, 1, 1000 - j); /* torn, with a rule half alone */
+        WANT_SHEET(expected);
+        halves(j, 1, 0, 0, 1000 - j); /* free */
+        WANT_SHEET(expected);
+        halves(j, 0, 1000 - j, 0, 0);
+    }
+}
+
+/* Wants a sheet that ends with this number of spent entries. */
+static void want_spent(int line, unsigned number)
+{
+    char last[32];
+    size_t length = (size_t)sprintf(last, "\nspent %u\n", number);
+
+    check(line, named("sheet"), COUNTER_DONE);
+    same(line, "sheet", "ends otherwise", memcmp(bytes(&text) + used - length, last, length) != 0, 0);
+}
+
+/* A call by which entry 7 becomes spent, and has the ID of the title that it had. */
+static void into_spent(const struct function *f)
+{
+    begin(f, 64, 5, 7);
+    want_spent(__LINE__, 0);
+    CHECK(f, COUNTER_DONE);
+    want_spent(__LINE__, 1);
+    same(__LINE__, f->name, "leaves other bytes", memcmp(bytes(&titles) + 16 * 7 + 8, "\0\0\0\0\0\0\0\5", 8) != 0, 0);
+}
+
+/* Another title put there leaves what it leaves at an entry of zeros; only a check-out leaves the rule half, which may be wiped. */
+static void out_of_spent(const struct function *into, const struct function *f)
+{
+    int wiped = into->kind == FULL && f->request == COUNTER_CHECK_OUT;
+    uint8_t title[16], rule[32];
+
+    begin(f, 64, 6, 7);
+    CHECK(f, COUNTER_DONE);
+    memcpy(title, bytes(&titles) + 16 * 7, sizeof title);
+    memcpy(rule, bytes(&rules) + 32 * 7, sizeof rule);
+    into_spent(into);
+    set_arguments(64, 6, 7);
+    f->ready();
+    CHECK(f, COUNTER_DONE);
+    want_spent(__LINE__, 0);
+    same(__LINE__, f->name, "other title half", memcmp(title, bytes(&titles) + 16 * 7, sizeof title) != 0, 0);
+    same(__LINE__, f->name, "other rule half", memcmp(rule, bytes(&rules) + 32 * 7, sizeof rule) != 0, wiped);
+}
+
+/* Every way into spent, and from there every way out. */
+static void ways_of_spent(void)
+{
+    static const char *const into[] = {"check-in", "move out", "delete of a copy", "delete of a full entry"};
+    static const char *const out[] = {"record", "check-out", "move in"};
+
+    for (size_t i = 0; i < COUNT_OF(into); i++)
+        for (size_t k = 0; k < COUNT_OF(out); k++)
+            out_of_spent(named(into[i]), named(out[k]));
+}
+
 /*
  * The longest sheet: three digits in most rows, two in permits and rights or three in a state, and in copies two wherever the 999
- * entries are enough for them, which is for 99 rows with 10 each.
+ * entries are enough for them, which is for 99 rows with 10 each. A digit more in the number of spent entries is one less there.
  */
 static void longest_sheets(void)
 {
     static const struct { unsigned state; size_t length; const char *last; } longest[] = {
-        {1, 13993, "\ntotal 13986 999\n"}, {255, 13989, "\ntotal 0 999\n"},
+        {1, 14001, "\ntotal 13986 999\nspent 0\n"}, {255, 13997, "\ntotal 0 999\nspent 0\n"},
     };
 
     for (size_t k = 0; k < COUNT_OF(longest); k++) {
@@ -1830,6 +1920,8 @@ static void sheets(void)
     sheets_of_facts_out_of_range();
     sheets_of_copies();
     sheets_of_kinds();
+    sheets_of_spent();
+    ways_of_spent();
     longest_sheets();
 }
 

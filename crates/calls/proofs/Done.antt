@@ -22,7 +22,7 @@ use Rattle.formats.specs.Row.{state_of, here_row, with_permits}
 use Rattle.formats.specs.declared.facts.Facts.{Facts}
 use Rattle.formats.specs.declared.facts.Fillers.{Fillers}
 use Rattle.formats.specs.declared.entry.EntryKind.{EntryKind}
-use Rattle.formats.specs.declared.entry.EntryKind.TheVariants.{Free, Copy, Full}
+use Rattle.formats.specs.declared.entry.EntryKind.TheVariants.{Copy, Full, Spent}
 use Rattle.formats.specs.declared.row.RowState.{RowState}
 use Rattle.formats.specs.declared.row.RowState.TheVariants.{Here, Away, Gone}
 use Rattle.requests.specs.declared.request.Request.{Request}
@@ -31,10 +31,10 @@ use Rattle.formats.proofs.Layouts.{layout}
 use Rattle.formats.proofs.Bytes.{bytes_part}
 use Rattle.formats.proofs.Part.{get_or_put_before, get_or_put_after}
 use Rattle.formats.proofs.facts.Laws.{Ranges, ranges, in_range_lem, permitting}
-use Rattle.formats.proofs.half.Laws.{written_key, written_id, half_wiped, wiped_key_gone}
+use Rattle.formats.proofs.half.Laws.{written_key, written_id, half_wiped, id_kept, wiped_key_gone}
 use Rattle.formats.proofs.title.Laws.{length_title_half, title_written_lem, title_cci}
 use Rattle.formats.proofs.rule.Laws.{length_rule_half, rule_hash, rule_wiped}
-use Rattle.formats.proofs.entry.Laws.{of_free, of_full, kind_copy, kind_full, copy_wiped, both_wiped, entry_facts_back, entry_facts_range, entry_keys}
+use Rattle.formats.proofs.entry.Laws.{vacant_rule, of_full, kind_copy, kind_full, copy_wiped, both_wiped, entry_facts_back, entry_facts_range, entry_keys}
 use Rattle.formats.proofs.row.Laws.{here_length, plain_length, state_here, state_plain_away, state_plain_gone, state_permits, here_facts_lem, here_keys}
 use Rattle.calls.specs.Count.{one_less, one_more}
 use Rattle.calls.specs.Buffers.{Buffers, buffers_of, row_at, title_at, rule_at, state_at, row_facts, here_facts, kind_at, content_at, facts_at, is_full, with_row, Within}
@@ -43,7 +43,7 @@ use Rattle.calls.specs.Conditions.{conditions}
 use Rattle.calls.specs.Perform.{refusal, perform, AreBytes}
 use Rattle.calls.specs.Needs.{WipesTitleKey, WipesStiKey}
 use Rattle.calls.specs.Untouched.{row_written}
-use Rattle.calls.specs.Work.{RowIs, Recounted, PermitsBecome, FullEntry, TitleWiped, RuleWiped, Left, WorkIsDone, RegisterByLedger, GoneStays}
+use Rattle.calls.specs.Work.{RowIs, Recounted, PermitsBecome, FullEntry, EntrySpent, TitleWiped, RuleWiped, Left, WorkIsDone, RegisterByLedger, GoneStays}
 use Rattle.calls.proofs.Counts.{less_most, more_most, copy_cci_of_2, copy_cci_else, copy_cci_small, copy_cci_not_1}
 use Rattle.calls.proofs.Refusals.{carried_out, unchanged}
 use Rattle.calls.proofs.Named.{Deletable, deletes_copy, deletes_holder, Named, named}
@@ -169,14 +169,19 @@ module _ (b : Buffers) (j : ℕ) (o : OnCard b j) where
         key_gone = λ audio same. wiped_key_gone (rule_wiped r f (rule_long b j o)) (other audio) (ap key_of (sym e) ∙ same);
       }
 
-  -- a copy whose title half is wiped is free, and so is a full entry both of whose halves are
-  free_copy : (f1 : ℕ) → kind_at b j ≡ Copy → kind_of (title_at (put b.titles (16 * j) (wiped t f1)) j) r ≡ Free
-  free_copy f1 k = kind_is (title_is (wiped t f1) (wiped_title_long b j o f1)) refl (copy_wiped t r f1 k)
+  -- a copy whose title half is wiped is spent, and so is a full entry both of whose halves are; the title half keeps its ID
+  spent : (f1 : ℕ) (ledger rules : List ℕ) → kind_of (wiped t f1) (rule_at rules j) ≡ Spent → EntrySpent j b (buffers_of ledger (put b.titles (16 * j) (wiped t f1)) rules)
+  spent f1 ledger rules k =
+      let e = title_is (wiped t f1) (wiped_title_long b j o f1) in
+      record { spent = kind_is e refl k; id = ap id_of e ∙ id_kept t f1 }
 
-  free_full : (f : Fillers) → kind_of (title_at (put b.titles (16 * j) (wiped t f.f1)) j) (rule_at (put b.rules (32 * j) (wiped_rule r f)) j) ≡ Free
-  free_full f =
-      kind_is (title_is (wiped t f.f1) (wiped_title_long b j o f.f1)) (rule_is (wiped_rule r f) (wiped_rule_long b j o f))
-      (both_wiped t r f.f1 f (rule_long b j o))
+  spent_copy : (f1 : ℕ) (ledger : List ℕ) → kind_at b j ≡ Copy → EntrySpent j b (buffers_of ledger (put b.titles (16 * j) (wiped t f1)) b.rules)
+  spent_copy f1 ledger k = spent f1 ledger b.rules (copy_wiped t r f1 k)
+
+  spent_full : (f : Fillers) (ledger : List ℕ) → kind_at b j ≡ Full
+      → EntrySpent j b (buffers_of ledger (put b.titles (16 * j) (wiped t f.f1)) (put b.rules (32 * j) (wiped_rule r f)))
+  spent_full f ledger k =
+      spent f.f1 ledger _ (kind_is refl (rule_is (wiped_rule r f) (wiped_rule_long b j o f)) (both_wiped t r f.f1 f (rule_long b j o) k))
 
   -- the facts of a full entry, where its halves hold bytes
   record FullFacts : Type 0 where
@@ -222,7 +227,7 @@ module _ (pair : Pair) (b : Buffers) (are_bytes : AreBytes b) where
       let after = effect (CheckOut c j) b in
       let half : title_at after.titles j.0 ≡ title_half cci f.title_key c.0 = title_is b j.0 o _ (length_title_half _ f.title_key c.0) in
       let says = ap cci_of half ∙ title_cci cci f.title_key c.0 small in
-      let unusable = (of_free _ _ n.free).rule_unusable in
+      let unusable = vacant_rule (title_at b.titles j.0) (rule_at b.rules j.0) n.vacant in
       record {
         row = permits_become b c.0 (one_less f.permits) _ _ i (less_most f.permits i.in_ranges.permits);
         copy = kind_is half refl (kind_copy cci f.title_key c.0 n.content.from n.content.to small (copy_cci_not_1 f.cci i.in_ranges.kind) _ unusable);
@@ -239,7 +244,7 @@ module _ (pair : Pair) (b : Buffers) (are_bytes : AreBytes b) where
       let i = here_row_lem b c (its_row pair (CheckIn j f1) b n) n.here in
       record {
         row = permits_become b c (one_more (row_facts b c).permits) _ _ i (more_most (row_facts b c).permits i.in_ranges.permits);
-        free = free_copy b j.0 o f1 n.copy;
+        entry = spent_copy b j.0 o f1 _ n.copy;
         title = title_wiped b j.0 o f1 _ _ n.title_key;
         rules = refl;
       }
@@ -255,7 +260,7 @@ module _ (pair : Pair) (b : Buffers) (are_bytes : AreBytes b) where
       record {
         row = record { reads = here_is after c g it.reads; bytes_are = it.bytes_are ∙ ap here_row (sym same) };
         facts = recounted_move (facts_at b j.0) same;
-        free = free_full b j.0 o f;
+        entry = spent_full b j.0 o f _ n.full;
         title = title_wiped b j.0 o f.f1 _ _ n.title_key;
         rule = rule_half_wiped b j.0 o pair f _ _ n.sti_key;
       }
@@ -277,7 +282,7 @@ module _ (pair : Pair) (b : Buffers) (are_bytes : AreBytes b) where
       record {
         of_copy = λ k.
             rw (ap is_full k)
-            record { free = free_copy b j.0 o f.f1 k; title = title_wiped b j.0 o f.f1 _ _ n.title_key; ledger = refl; rules = refl };
+            record { entry = spent_copy b j.0 o f.f1 _ k; title = title_wiped b j.0 o f.f1 _ _ n.title_key; ledger = refl; rules = refl };
         of_full = λ k.
             elim n.deletable [
               | deletes_copy copy ↦ let z : ◌≡◌ {A = ℕ} 0 1 = cc in absurd (omega arith)
@@ -285,7 +290,7 @@ module _ (pair : Pair) (b : Buffers) (are_bytes : AreBytes b) where
                   rw (ap is_full k)
                   record {
                     row = row_is b.ledger c (row_in b c Away refl n.heads.ledger away) _ (plain_length _) _ _ Gone state_plain_gone;
-                    free = free_full b j.0 o f;
+                    entry = spent_full b j.0 o f _ full;
                     title = title_wiped b j.0 o f.f1 _ _ n.title_key;
                     rule = rule_half_wiped b j.0 o pair f _ _ key;
                   }

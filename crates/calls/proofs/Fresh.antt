@@ -8,6 +8,7 @@ use lib.Dec.{leb}
 use borrow.Author.Tests.{leb-true}
 use Rattle.formats.specs.declared.head.Pair.{Pair}
 use Rattle.formats.specs.Head.{rows_of, fresh_ledger}
+use Rattle.formats.specs.Half.{id_of}
 use Rattle.formats.specs.Entry.{kind_of}
 use Rattle.formats.specs.Row.{state_of}
 use Rattle.formats.specs.declared.entry.EntryKind.TheVariants.{Free}
@@ -16,7 +17,7 @@ use Rattle.formats.proofs.Tests.{split, refuted}
 use Rattle.formats.proofs.entry.Laws.{kind_zeros}
 use Rattle.formats.proofs.row.Laws.{state_zeros}
 use Rattle.formats.proofs.head.Laws.{ledger_head, titles_head, rules_head, fresh_ledger_application, fresh_rows, fresh_ledger_passes, fresh_row, fresh_titles_pass, fresh_title, fresh_rules_application, fresh_rules_pass, fresh_rule, fresh_ledger_bytes, fresh_titles_bytes, fresh_rules_bytes}
-use Rattle.calls.specs.Buffers.{row_at, state_in, state_at, kind_at, fresh, Within}
+use Rattle.calls.specs.Buffers.{row_at, state_in, state_at, kind_at, content_at, fresh, Within}
 use Rattle.calls.specs.Perform.{AreBytes}
 use Rattle.calls.specs.Fresh.{RowsByNumber, FreshIsReady}
 use Rattle.calls.proofs.Named.{HeadsPass}
@@ -30,6 +31,10 @@ module _ (pair : Pair) (rows application card_application : ℕ) where
 
   pub fresh_free : (j : ℕ) → Within 999 j → kind_at (fresh pair rows application card_application) j ≡ Free
   fresh_free j l = ap₂ kind_of (fresh_title pair j l.from l.to) (fresh_rule pair card_application j l.from l.to) ∙ kind_zeros
+
+  -- no entry has an ID
+  pub fresh_content : (j : ℕ) → Within 999 j → content_at (fresh pair rows application card_application) j ≡ 0
+  fresh_content j l = ap id_of (fresh_title pair j l.from l.to)
 
   pub fresh_bytes : AreBytes (fresh pair rows application card_application)
   fresh_bytes = record { ledger = fresh_ledger_bytes rows application; titles = fresh_titles_bytes pair; rules = fresh_rules_bytes pair card_application }

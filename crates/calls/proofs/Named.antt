@@ -9,12 +9,12 @@ use Rattle.formats.specs.declared.head.Pair.TheVariants.{Audio}
 use Rattle.formats.specs.Head.{LedgerHead, TitlesHead}
 use Rattle.formats.specs.declared.facts.Facts.{Facts}
 use Rattle.formats.specs.declared.facts.Fillers.{Fillers}
-use Rattle.formats.specs.declared.entry.EntryKind.TheVariants.{Free, Copy, Full}
+use Rattle.formats.specs.declared.entry.EntryKind.TheVariants.{Copy, Full}
 use Rattle.formats.specs.declared.row.RowState.TheVariants.{Empty, Here, Away}
 use Rattle.requests.specs.declared.request.Request.{Request}
 use Rattle.requests.specs.declared.request.Request.TheVariants.{Register, Record, CheckOut, CheckIn, MoveOut, MoveIn, Delete}
 use Rattle.calls.specs.Buffers.{Buffers, state_at, row_facts, kind_at, content_at, facts_at, hash_at, Within}
-use Rattle.calls.specs.Needs.{FactsInRange, RulesOfLedger, MayMove, WipesTitleKey, WipesStiKey, NoCopy, Needs}
+use Rattle.calls.specs.Needs.{FactsInRange, RulesOfLedger, MayMove, WipesTitleKey, WipesStiKey, Vacant, NoCopy, Needs}
 
 -- 7, 8 and 9
 pub record HeadsPass (pair : Pair) (b : Buffers) : Type 0 where
@@ -33,14 +33,14 @@ pub record RecordNeeds (pair : Pair) (c j : ℕ) (f : Facts) (b : Buffers) : Typ
   pub entry : Within 999 j
   pub facts : FactsInRange f
   pub heads : HeadsPass pair b
-  pub free : kind_at b j ≡ Free
+  pub vacant : Vacant b j
   pub empty : state_at b c ≡ Empty
 
 pub record CheckOutNeeds (pair : Pair) (c j : ℕ) (b : Buffers) : Type 0 where
   pub content : Within 999 c
   pub entry : Within 999 j
   pub heads : HeadsPass pair b
-  pub free : kind_at b j ≡ Free
+  pub vacant : Vacant b j
   pub here : state_at b c ≡ Here (row_facts b c)
   pub permit_left : (row_facts b c).permits ≢ 0
 
@@ -66,7 +66,7 @@ pub record MoveInNeeds (pair : Pair) (c j : ℕ) (b : Buffers) : Type 0 where
   pub content : Within 999 c
   pub entry : Within 999 j
   pub heads : HeadsPass pair b
-  pub free : kind_at b j ≡ Free
+  pub vacant : Vacant b j
   pub here : state_at b c ≡ Here (row_facts b c)
   pub may_move : MayMove (row_facts b c)
   pub no_copy : NoCopy b c
@@ -92,10 +92,10 @@ Named pair (Delete j f) b = DeleteNeeds pair j.0 f b
 
 pub named : (pair : Pair) (k : Request) (b : Buffers) → Needs pair k b → Named pair k b
 named pair (Register c f) b (content, (facts, (ledger, (empty, end)))) = record { content = content; facts = facts; ledger = ledger; empty = empty }
-named pair (Record c j f h) b (content, (entry, (facts, (ledger, (titles, (rules, (free, (empty, end)))))))) =
-    record { content = content; entry = entry; facts = facts; heads = record { ledger = ledger; titles = titles; rules = rules }; free = free; empty = empty }
-named pair (CheckOut c j) b (content, (entry, (ledger, (titles, (rules, (free, (here, (permit_left, end)))))))) =
-    record { content = content; entry = entry; heads = record { ledger = ledger; titles = titles; rules = rules }; free = free; here = here; permit_left = permit_left }
+named pair (Record c j f h) b (content, (entry, (facts, (ledger, (titles, (rules, (vacant, (empty, end)))))))) =
+    record { content = content; entry = entry; facts = facts; heads = record { ledger = ledger; titles = titles; rules = rules }; vacant = vacant; empty = empty }
+named pair (CheckOut c j) b (content, (entry, (ledger, (titles, (rules, (vacant, (here, (permit_left, end)))))))) =
+    record { content = content; entry = entry; heads = record { ledger = ledger; titles = titles; rules = rules }; vacant = vacant; here = here; permit_left = permit_left }
 named pair (CheckIn j f1) b (entry, (ledger, (titles, (rules, (copy, (here, (not_14, (title_key, end)))))))) =
     record { entry = entry; heads = record { ledger = ledger; titles = titles; rules = rules }; copy = copy; here = here; not_14 = not_14; title_key = title_key }
 named pair (MoveOut j h f) b (entry, (ledger, (titles, (rules, (full, (away, (may_move, (hash, (keys, end))))))))) =
@@ -109,12 +109,12 @@ named pair (MoveOut j h f) b (entry, (ledger, (titles, (rules, (full, (away, (ma
       title_key = keys.0;
       sti_key = keys.1;
     }
-named pair (MoveIn c j h) b (content, (entry, (ledger, (titles, (rules, (free, (here, (may_move, (no_copy, end))))))))) =
+named pair (MoveIn c j h) b (content, (entry, (ledger, (titles, (rules, (vacant, (here, (may_move, (no_copy, end))))))))) =
     record {
       content = content;
       entry = entry;
       heads = record { ledger = ledger; titles = titles; rules = rules };
-      free = free;
+      vacant = vacant;
       here = here;
       may_move = may_move;
       no_copy = no_copy;
@@ -132,7 +132,7 @@ module _ (pair : Pair) (b : Buffers) (j : ℕ) (f : Fillers) where
   not_both : {A : Type 0} → kind_at b j ≡ Copy → kind_at b j ≡ Full → A
   not_both copy full = let z : ◌≡◌ {A = ℕ} 0 1 = cc in absurd (omega arith)
 
-  kind_of_lem : Deletable pair j f b → (kind_at b j ≡ Copy) ⊎ (kind_at b j ≡ Full)
+  pub kind_of_lem : Deletable pair j f b → (kind_at b j ≡ Copy) ⊎ (kind_at b j ≡ Full)
   kind_of_lem (deletes_copy copy) = inl copy
   kind_of_lem (deletes_holder full away key) = inr full
 
@@ -147,15 +147,15 @@ module _ (pair : Pair) (b : Buffers) (j : ℕ) (f : Fillers) where
 pub unnamed : (pair : Pair) (k : Request) (b : Buffers) → Named pair k b → Needs pair k b
 unnamed pair (Register c f) b n = (n.content, (n.facts, (n.ledger, (n.empty, tt))))
 unnamed pair (Record c j f h) b n =
-    (n.content, (n.entry, (n.facts, (n.heads.ledger, (n.heads.titles, (n.heads.rules, (n.free, (n.empty, tt))))))))
+    (n.content, (n.entry, (n.facts, (n.heads.ledger, (n.heads.titles, (n.heads.rules, (n.vacant, (n.empty, tt))))))))
 unnamed pair (CheckOut c j) b n =
-    (n.content, (n.entry, (n.heads.ledger, (n.heads.titles, (n.heads.rules, (n.free, (n.here, (n.permit_left, tt))))))))
+    (n.content, (n.entry, (n.heads.ledger, (n.heads.titles, (n.heads.rules, (n.vacant, (n.here, (n.permit_left, tt))))))))
 unnamed pair (CheckIn j f1) b n =
     (n.entry, (n.heads.ledger, (n.heads.titles, (n.heads.rules, (n.copy, (n.here, (n.not_14, (n.title_key, tt))))))))
 unnamed pair (MoveOut j h f) b n =
     (n.entry, (n.heads.ledger, (n.heads.titles, (n.heads.rules, (n.full, (n.away, (n.may_move, (n.hash, ((n.title_key, n.sti_key), tt)))))))))
 unnamed pair (MoveIn c j h) b n =
-    (n.content, (n.entry, (n.heads.ledger, (n.heads.titles, (n.heads.rules, (n.free, (n.here, (n.may_move, (n.no_copy, tt)))))))))
+    (n.content, (n.entry, (n.heads.ledger, (n.heads.titles, (n.heads.rules, (n.vacant, (n.here, (n.may_move, (n.no_copy, tt)))))))))
 unnamed pair (Delete j f) b n = (
   n.entry,
   (

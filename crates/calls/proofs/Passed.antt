@@ -12,18 +12,19 @@ use borrow.Author.Tests.{lt-ltb, ltb-true, eq-eqb, ne_eqb, eqb-true, eqb-false, 
 use Rattle.formats.specs.declared.head.Pair.{Pair}
 use Rattle.formats.specs.declared.head.Pair.TheVariants.{Audio, Picture}
 use Rattle.formats.specs.Facts.{numbered, facts_pass, in_range, key_passes}
+use Rattle.formats.specs.Entry.{is_vacant}
 use Rattle.formats.specs.Head.{LedgerHead, TitlesHead, RulesHead, ledger_passes, ledger_application, titles_pass, rules_pass, rules_application}
 use Rattle.formats.specs.declared.facts.Facts.{Facts}
 use Rattle.requests.specs.declared.request.Request.{Request}
 use Rattle.requests.specs.declared.request.Request.TheVariants.{Register, Record, CheckOut, CheckIn, MoveOut, MoveIn, Delete}
 use Rattle.formats.specs.declared.entry.EntryKind.{EntryKind}
-use Rattle.formats.specs.declared.entry.EntryKind.TheVariants.{Free, Copy, Full, Torn}
+use Rattle.formats.specs.declared.entry.EntryKind.TheVariants.{Free, Copy, Full, Torn, Spent}
 use Rattle.formats.specs.declared.row.RowState.{RowState}
 use Rattle.formats.specs.declared.row.RowState.TheVariants.{Empty, Here, Away, Gone, NoState}
 use Rattle.formats.proofs.Tests.{split, both}
 use Rattle.formats.proofs.facts.Laws.{numbered_range, range_numbered, Ranges, ranges, in_range_lem}
 use Rattle.formats.proofs.head.Laws.{ledger_head, ledger_passes_lem, titles_head, titles_pass_lem, rules_head, rules_pass_lem}
-use Rattle.calls.specs.Buffers.{Buffers, state_at, row_facts, here_facts, kind_at, content_at, facts_at, is_free, is_copy, is_full, is_empty, is_here, is_away, one, copies, Within}
+use Rattle.calls.specs.Buffers.{Buffers, state_at, row_facts, here_facts, kind_at, content_at, facts_at, is_copy, is_full, is_empty, is_here, is_away, one, copies, Within}
 use Rattle.calls.specs.Refusal.{Condition, ◌when◌, first, FirstToHold, NoneHolds}
 use Rattle.calls.specs.Conditions.{looks_at_f2, may_not_move, conditions}
 use Rattle.calls.specs.Perform.{perform}
@@ -96,23 +97,26 @@ tests_rules pair b =
     }
 
 -- 10: the entry is of the kind needed
-is_free_lem : (k : EntryKind) → not (is_free k) ≡ false → k ≡ Free
-is_free_lem Free e = refl
-is_free_lem Copy e = absurd (true≢false e)
-is_free_lem Full e = absurd (true≢false e)
-is_free_lem Torn e = absurd (true≢false e)
+is_vacant_lem : (k : EntryKind) → not (is_vacant k) ≡ false → (k ≡ Free) ⊎ (k ≡ Spent)
+is_vacant_lem Free e = inl refl
+is_vacant_lem Copy e = absurd (true≢false e)
+is_vacant_lem Full e = absurd (true≢false e)
+is_vacant_lem Torn e = absurd (true≢false e)
+is_vacant_lem Spent e = inr refl
 
 pub is_copy_lem : (k : EntryKind) → not (is_copy k) ≡ false → k ≡ Copy
 is_copy_lem Free e = absurd (true≢false e)
 is_copy_lem Copy e = refl
 is_copy_lem Full e = absurd (true≢false e)
 is_copy_lem Torn e = absurd (true≢false e)
+is_copy_lem Spent e = absurd (true≢false e)
 
-is_full_lem : (k : EntryKind) → not (is_full k) ≡ false → k ≡ Full
+pub is_full_lem : (k : EntryKind) → not (is_full k) ≡ false → k ≡ Full
 is_full_lem Free e = absurd (true≢false e)
 is_full_lem Copy e = absurd (true≢false e)
 is_full_lem Full e = refl
 is_full_lem Torn e = absurd (true≢false e)
+is_full_lem Spent e = absurd (true≢false e)
 
 -- 11: the row is in the state needed
 is_empty_lem : (s : RowState) → not (is_empty s) ≡ false → s ≡ Empty
@@ -137,8 +141,8 @@ is_away_lem Gone e = absurd (true≢false e)
 is_away_lem NoState e = absurd (true≢false e)
 
 module _ (k : EntryKind) where
-  tests_free : Tests (not (is_free k)) (k ≡ Free)
-  tests_free = record { met = is_free_lem k; unmet = λ e. holds_not (ap is_free e) }
+  tests_vacant : Tests (not (is_vacant k)) ((k ≡ Free) ⊎ (k ≡ Spent))
+  tests_vacant = record { met = is_vacant_lem k; unmet = ⊎_elim (λ e. holds_not (ap is_vacant e)) (λ e. holds_not (ap is_vacant e)) }
 
   tests_copy : Tests (not (is_copy k)) (k ≡ Copy)
   tests_copy = record { met = is_copy_lem k; unmet = λ e. holds_not (ap is_copy e) }
@@ -198,6 +202,7 @@ tests_either k = record { met = met k; unmet = ⊎_elim (λ e. holds_not (ap (λ
     met Copy e = inl refl
     met Full e = inr refl
     met Torn e = absurd (true≢false e)
+    met Spent e = absurd (true≢false e)
 
 -- 12: neither trigger nor rights forbid a move
 tests_move : (f : Facts) → Tests (may_not_move f.trigger f.rights) (MayMove f)
@@ -215,6 +220,7 @@ module _ (c : ℕ) (b : Buffers) where
   not_one Copy id other = ap one (ne_eqb id c (other refl))
   not_one Full id other = refl
   not_one Torn id other = refl
+  not_one Spent id other = refl
 
   -- a copy counts
   copy_counts : (i : ℕ) → Within 999 i → kind_at b i ≡ Copy → content_at b i ≡ c → copies c b.titles b.rules ≢ 0
@@ -280,10 +286,10 @@ unfolding conditions
 in_step pair (Register c f) b = tests_number c.0 then tests_facts f then tests_ledger b.ledger then tests_empty (state_at b c.0) then end
 in_step pair (Record c j f h) b =
     tests_number c.0 then tests_number j.0 then tests_facts f then tests_ledger b.ledger then tests_titles pair b.titles then tests_rules pair b
-    then tests_free (kind_at b j.0) then tests_empty (state_at b c.0) then end
+    then tests_vacant (kind_at b j.0) then tests_empty (state_at b c.0) then end
 in_step pair (CheckOut c j) b =
     tests_number c.0 then tests_number j.0 then tests_ledger b.ledger then tests_titles pair b.titles then tests_rules pair b
-    then tests_free (kind_at b j.0) then tests_here (state_at b c.0) then tests_other (row_facts b c.0).permits 0 then end
+    then tests_vacant (kind_at b j.0) then tests_here (state_at b c.0) then tests_other (row_facts b c.0).permits 0 then end
 in_step pair (CheckIn j f1) b =
     let c = content_at b j.0 in
     tests_number j.0 then tests_ledger b.ledger then tests_titles pair b.titles then tests_rules pair b
@@ -294,7 +300,7 @@ in_step pair (MoveOut j h f) b =
     then tests_both (tests_other _ _) (tests_if_audio pair (tests_other _ _)) then end
 in_step pair (MoveIn c j h) b =
     tests_number c.0 then tests_number j.0 then tests_ledger b.ledger then tests_titles pair b.titles then tests_rules pair b
-    then tests_free (kind_at b j.0) then tests_here (state_at b c.0) then tests_move (row_facts b c.0) then tests_copies c.0 b then end
+    then tests_vacant (kind_at b j.0) then tests_here (state_at b c.0) then tests_move (row_facts b c.0) then tests_copies c.0 b then end
 in_step pair (Delete j f) b =
     let k = kind_at b j.0 in
     tests_number j.0 then tests_ledger b.ledger then tests_titles pair b.titles then tests_rules pair b

@@ -3,7 +3,7 @@
 -- Assumes nothing.
 use Prim.Native.Nat.{ℕ, ◌≤◌}
 use mathlib.Core.Path.{◌≡◌, refl, sym, ap, ap₂, ◌∙◌}
-use mathlib.Core.Logic.{◌≢◌, ◌⊎◌, inl, inr}
+use mathlib.Core.Logic.{◌≢◌, ◌⊎◌, inl, inr, ⊎_elim}
 use mathlib.Core.List.{List, [], ◌∷◌}
 use mathlib.Core.Option.{some}
 use native.Mathlib.Omega.{arith}
@@ -12,14 +12,14 @@ use Rattle.formats.specs.declared.head.Pair.{Pair}
 use Rattle.formats.specs.Entry.{kind_of, entry_facts}
 use Rattle.formats.specs.Row.{here_row}
 use Rattle.formats.specs.declared.facts.Facts.{Facts}
-use Rattle.formats.specs.declared.entry.EntryKind.TheVariants.{Free, Copy, Full}
+use Rattle.formats.specs.declared.entry.EntryKind.TheVariants.{Copy, Full}
 use Rattle.formats.specs.declared.row.RowState.TheVariants.{Empty, Here, Away}
 use Rattle.requests.specs.declared.request.Request.{Request}
 use Rattle.calls.specs.Buffers.{Buffers, title_at, rule_at, state_at, row_facts, here_facts, kind_at, content_at, facts_at, title_key_at, sti_key_at, fresh, Within}
 use Rattle.calls.specs.Count.{one_less, one_more}
 use Rattle.calls.specs.Perform.{perform, AreBytes}
 use Rattle.calls.specs.History.{run, in_order, answers}
-use Rattle.calls.specs.Needs.{FactsInRange, MayMove, Needs}
+use Rattle.calls.specs.Needs.{FactsInRange, MayMove, Vacant, Needs}
 use Rattle.calls.specs.Untouched.{title_written}
 use Rattle.calls.specs.Work.{RowIs, Recounted, PermitsBecome, FullEntry}
 use Rattle.calls.specs.Examples.{check_out}
@@ -40,7 +40,7 @@ use Rattle.calls.proofs.Fresh.{fresh_empty, fresh_free, fresh_bytes, fresh_heads
 record Open (pair : Pair) (b : Buffers) : Type 0 where
   bytes : AreBytes b
   heads : HeadsPass pair b
-  free : (i : ℕ) → Within 999 i → i ≢ 7 → kind_at b i ≡ Free
+  vacant : (i : ℕ) → Within 999 i → i ≢ 7 → Vacant b i
 
 -- title 1 has these facts, with one move right and so many permits
 record Title1 (f : Facts) (permits : ℕ) : Type 0 where
@@ -60,7 +60,7 @@ record Standing (pair : Pair) (b : Buffers) (permits : ℕ) : Type 0 where
 -- no entry is in use
 record Home (pair : Pair) (b : Buffers) (permits : ℕ) : Type 0 where
   standing : Standing pair b permits
-  free_7 : kind_at b 7 ≡ Free
+  vacant_7 : Vacant b 7
 
 -- or entry 7 has its copy
 record Lent (pair : Pair) (b : Buffers) : Type 0 where
@@ -95,10 +95,15 @@ eight = record { from = omega arith; to = omega arith }
 nine : Within 999 9
 nine = record { from = omega arith; to = omega arith }
 
--- the tables stay right, and entries other than 7 free, where entry 7 is written
+-- an entry that is free or spent is no copy
+no_copy_at : (b : Buffers) (i : ℕ) → Vacant b i → kind_at b i ≢ Copy
+no_copy_at b i =
+    ⊎_elim (λ free copy. let z : ◌≡◌ {A = ℕ} 0 1 = cc in omega arith) (λ spent copy. let z : ◌≡◌ {A = ℕ} 0 1 = cc in omega arith)
+
+-- the tables stay right, and entries other than 7 vacant, where entry 7 is written
 open_after : (pair : Pair) (k : Request) (b : Buffers) → title_written k ≡ some 7 → Open pair b → Open pair (perform pair k b).buffers
 open_after pair k b written o =
-    record { bytes = (in_bounds pair k b).stay_bytes o.bytes; heads = heads_kept pair k b o.heads; free = λ i l ne. same i l ne ∙ o.free i l ne }
+    record { bytes = (in_bounds pair k b).stay_bytes o.bytes; heads = heads_kept pair k b o.heads; vacant = λ i l ne. rw (same i l ne) (o.vacant i l ne) }
   where
     same : (i : ℕ) → Within 999 i → i ≢ 7 → kind_at (perform pair k b).buffers i ≡ kind_at b i
     same i l ne =
@@ -153,7 +158,7 @@ record Registered (pair : Pair) (c : ℕ) (f : Facts) (b : Buffers) : Type 0 whe
   heads : HeadsPass pair b
   row : state_at b c ≡ Here f
   others : (d : ℕ) → Within 64 d → d ≢ c → state_at b d ≡ Empty
-  free : (i : ℕ) → Within 999 i → kind_at b i ≡ Free
+  vacant : (i : ℕ) → Within 999 i → Vacant b i
 
 registered : (pair : Pair) (c : ℕ) (f : Facts) → Within 64 c → FactsInRange f → Goes pair (registration c f) (fresh pair 64 0 0) (Registered pair c f)
 registered pair c f is in_range_lem =
@@ -180,7 +185,7 @@ registered pair c f is in_range_lem =
             others = λ d there ne.
                 row_else w.untouched.rows p.ledger d (λ e. let same : ◌≡◌ {A = ℕ} c d = cc in ne (sym same))
                 ∙ fresh_empty pair 64 0 0 (omega arith) d there;
-            free = λ i m. ap₂ (λ (t r : List ℕ). kind_of (title_at t i) (rule_at r i)) l.titles l.rules ∙ fresh_free pair 64 0 0 i m;
+            vacant = λ i m. inl (ap₂ (λ (t r : List ℕ). kind_of (title_at t i) (rule_at r i)) l.titles l.rules ∙ fresh_free pair 64 0 0 i m);
           };
     }
 
@@ -200,7 +205,7 @@ in_range_lem rights few =
 -- 2 record, to entry 7
 recorded : (pair : Pair) (b : Buffers) → Registered pair 2 sample_facts b → Goes pair recording b (AtSeven pair)
 recorded pair b s =
-    let o : Open pair b = record { bytes = s.bytes; heads = s.heads; free = λ i l ne. s.free i l } in
+    let o : Open pair b = record { bytes = s.bytes; heads = s.heads; vacant = λ i l ne. s.vacant i l } in
     let n : Needs pair recording b =
     unnamed pair recording b
     (record {
@@ -208,7 +213,7 @@ recorded pair b s =
       entry = seven;
       facts = in_range_lem 2 (omega arith);
       heads = s.heads;
-      free = s.free 7 seven;
+      vacant = s.vacant 7 seven;
       empty = s.others 1 (record { from = omega arith; to = omega arith }) (λ e. omega arith);
     }) in
     let w = work_is_done pair recording b in
@@ -254,7 +259,7 @@ moved_out pair b s =
                         sti_key = facts.sti_key;
                       };
                 };
-            free_7 = l.free;
+            vacant_7 = inr l.entry.spent;
           };
     }
 
@@ -267,7 +272,7 @@ lent_out pair b h =
     let o = s.tables in
     let n : Needs pair k b =
     unnamed pair k b
-    (record { content = one; entry = seven; heads = o.heads; free = h.free_7; here = s.here; permit_left = λ e. omega (arith, s.facts.permits_are) }) in
+    (record { content = one; entry = seven; heads = o.heads; vacant = h.vacant_7; here = s.here; permit_left = λ e. omega (arith, s.facts.permits_are) }) in
     let w = work_is_done pair k b in
     let l = w.leaves o.bytes n in
     record {
@@ -314,7 +319,7 @@ checked_in_lem pair b s =
                   here = row.here;
                   facts = with_permits_lem i.facts row.facts (ap one_more i.facts.permits_are);
                 };
-            free_7 = l.free;
+            vacant_7 = inr l.entry.spent;
           };
     }
 
@@ -333,7 +338,7 @@ copy_deleted_lem pair b s =
       after =
           record {
             standing = record { tables = open_after pair k b refl i.tables; here = rw l.ledger i.here; facts = rw l.ledger i.facts };
-            free_7 = l.free;
+            vacant_7 = inr l.entry.spent;
           };
     }
 
@@ -342,17 +347,17 @@ moved_in : (pair : Pair) (b : Buffers) (permits : ℕ) → Home pair b permits �
 moved_in pair b permits h =
     let s = h.standing in
     let o = s.tables in
-    let all-free : (i : ℕ) → Within 999 i → kind_at b i ≡ Free = λ i l. elim (ℕ_discrete i 7) [ yes e ↦ rw e h.free_7 | no ne ↦ o.free i l ne ] in
+    let all-vacant : (i : ℕ) → Within 999 i → Vacant b i = λ i l. elim (ℕ_discrete i 7) [ yes e ↦ rw e h.vacant_7 | no ne ↦ o.vacant i l ne ] in
     let n : Needs pair move_in b =
     unnamed pair move_in b
     (record {
       content = one;
       entry = nine;
       heads = o.heads;
-      free = all-free 9 nine;
+      vacant = all-vacant 9 nine;
       here = s.here;
       may_move = may_move_1 s.facts;
-      no_copy = λ i l copy. let z : ◌≡◌ {A = ℕ} 0 1 = cc (all-free i l) in absurd (omega arith);
+      no_copy = λ i l copy. absurd (no_copy_at b i (all-vacant i l) copy);
     }) in
     let w = work_is_done pair move_in b in
     let l = w.leaves o.bytes n in
@@ -398,7 +403,7 @@ move_in_refused pair b s =
     let i = s.standing in
     let p = i.tables.heads in
     (work_is_done pair move_in b).answered.refused 14
-    (one met_then nine met_then p.ledger met_then p.titles met_then p.rules met_then i.tables.free 9 nine (λ e. omega arith)
+    (one met_then nine met_then p.ledger met_then p.titles met_then p.rules met_then i.tables.vacant 9 nine (λ e. omega arith)
     met_then i.here met_then may_move_1 i.facts met_then unmet (λ none. none 7 seven s.copy s.id))
 
 -- 3 check-out, with no permit left
@@ -407,7 +412,7 @@ check_out_refused pair b s =
     let i = s.standing in
     let p = i.tables.heads in
     (work_is_done pair (check_out 1 8) b).answered.refused 12
-    (one met_then eight met_then p.ledger met_then p.titles met_then p.rules met_then i.tables.free 8 eight (λ e. omega arith)
+    (one met_then eight met_then p.ledger met_then p.titles met_then p.rules met_then i.tables.vacant 8 eight (λ e. omega arith)
     met_then i.here met_then unmet (λ left. left i.facts.permits_are))
 
 -- THE RUNS
@@ -419,11 +424,11 @@ at_home pair b s =
     record {
       standing =
           record {
-            tables = record { bytes = s.bytes; heads = s.heads; free = λ i l ne. s.free i l };
+            tables = record { bytes = s.bytes; heads = s.heads; vacant = λ i l ne. s.vacant i l };
             here = s.row ∙ ap Here (sym facts);
             facts = rw facts record { cci = refl; trigger = refl; rights = refl; permits_are = refl; title_key = refl; sti_key = refl };
           };
-      free_7 = s.free 7 seven;
+      vacant_7 = s.vacant 7 seven;
     }
 
 in_ledger : (c : ℕ) → 1 ≤ c → c ≤ 64 → Within 64 c

@@ -2,7 +2,7 @@
 -- Assumes nothing.
 use Prim.Native.Nat.{ℕ, ◌+◌, ◌*◌, ◌≤◌}
 use mathlib.Core.Path.{◌≡◌, refl, sym, ap, ap₂, ◌∙◌}
-use mathlib.Core.Logic.{◌≢◌}
+use mathlib.Core.Logic.{◌≢◌, ⊎_elim}
 use mathlib.Core.List.{List}
 use mathlib.Core.Option.{Option, some}
 use mathlib.Core.Bool.{Bool, true, false, cond, ◌&&◌}
@@ -17,17 +17,18 @@ use Rattle.formats.specs.Head.{LedgerHead, rows_of}
 use Rattle.formats.specs.Row.{state_of}
 use Rattle.formats.specs.declared.facts.Facts.{Facts}
 use Rattle.formats.specs.declared.entry.EntryKind.{EntryKind}
-use Rattle.formats.specs.declared.entry.EntryKind.TheVariants.{Free, Copy, Full, Torn}
+use Rattle.formats.specs.declared.entry.EntryKind.TheVariants.{Free, Copy, Full, Torn, Spent}
 use Rattle.formats.specs.declared.row.RowState.TheVariants.{NoState}
 use Rattle.formats.proofs.Part.{part_length}
 use Rattle.formats.proofs.Tests.{split, both}
 use Rattle.formats.proofs.head.Laws.{rows_kept}
 use Rattle.calls.specs.Buffers.{kind_at, content_at, facts_at, cci_at, is_copy, is_full, one, total, copies, Buffers, row_at, title_at, rule_at, state_in, state_at, Within}
+use Rattle.calls.specs.Needs.{Vacant}
 use Rattle.calls.specs.Untouched.{SlotsKept}
 use Rattle.calls.proofs.Slots.{slot_ends, slot_same, slots_kept}
 use Rattle.calls.specs.History.{full_of}
 use Rattle.calls.proofs.History.Totals.{total_same}
-use Rattle.calls.proofs.History.Titles.{Place, vacant, copy, full, copy_in, full_in}
+use Rattle.calls.proofs.History.Titles.{Place, no_title, copy, full, copy_in, full_in}
 use Rattle.calls.proofs.History.Step.{State, copies_in, fulls_in}
 
 -- ROWS
@@ -90,12 +91,13 @@ module _ {old new : List ℕ} {written : Option ℕ} (kept : SlotsKept 24 writte
 
 -- ENTRIES
 
--- what an entry is as a place: a free or torn one has nothing
+-- what an entry is as a place: a free, torn or spent one has nothing
 abbrev pub place_by : EntryKind → ℕ → Facts → Place
-place_by Free c f = vacant
+place_by Free c f = no_title
 place_by Copy c f = copy c f.cci
 place_by Full c f = full c f
-place_by Torn c f = vacant
+place_by Torn c f = no_title
+place_by Spent c f = no_title
 
 abbrev pub place_of : List ℕ → List ℕ → Place
 place_of t r = place_by (kind_of t r) (id_of t) (entry_facts t r)
@@ -106,15 +108,21 @@ full_entry Free id f c h e = (cc, cc, cc)
 full_entry Copy id f c h e = (cc, cc, cc)
 full_entry Full id f c h e = (refl, cc, cc)
 full_entry Torn id f c h e = (cc, cc, cc)
+full_entry Spent id f c h e = (cc, cc, cc)
 
 -- what the rows and entries are
 abbrev pub view : Buffers → State
 view b = record { rows = state_at b; places = λ j. place_of (title_at b.titles j) (rule_at b.rules j) }
 
--- an entry of a kind, as a place; and a copy, with its CCI
+-- an entry of a kind, as a place
 pub place_is : (b : Buffers) (j : ℕ) {k : EntryKind} → kind_at b j ≡ k → (view b).places j ≡ place_by k (content_at b j) (facts_at b j)
 place_is b j e = ap (λ (k : EntryKind). place_by k (content_at b j) (facts_at b j)) e
 
+-- one that is free or spent has nothing
+pub nothing_at : (b : Buffers) (j : ℕ) → Vacant b j → (view b).places j ≡ no_title
+nothing_at b j = ⊎_elim (place_is b j) (place_is b j)
+
+-- and a copy, with its CCI
 pub copy_is : (b : Buffers) (j c : ℕ) → kind_at b j ≡ Copy → content_at b j ≡ c → (view b).places j ≡ copy c (cci_at b j)
 unfolding entry_facts
 copy_is b j c e id = place_is b j e ∙ ap (λ (i : ℕ). copy i (cci_at b j)) id
@@ -127,6 +135,7 @@ copy_counts c Free id f = refl
 copy_counts c Copy id f = refl
 copy_counts c Full id f = refl
 copy_counts c Torn id f = refl
+copy_counts c Spent id f = refl
 
 pub copies_seen : (c : ℕ) (b : Buffers) → copies c b.titles b.rules ≡ copies_in 999 c (view b)
 unfolding copies
@@ -138,6 +147,7 @@ full_counts c Free id f = refl
 full_counts c Copy id f = refl
 full_counts c Full id f = refl
 full_counts c Torn id f = refl
+full_counts c Spent id f = refl
 
 pub fulls_seen : (c : ℕ) (b : Buffers) → total 999 (λ j. one (full_of c b j)) ≡ fulls_in 999 c (view b)
 fulls_seen c b = total_same 999 _ _ (λ j l. sym (full_counts c (kind_at b j) (content_at b j) (facts_at b j)))
@@ -164,7 +174,7 @@ module _ (width : ℕ) (table : List ℕ) (long : length table ≡ width * 1000)
 module _ (b after : Buffers) {title rule : Option ℕ} (titles : SlotsKept 16 title b.titles after.titles) (rules : SlotsKept 32 rule b.rules after.rules)
     (titles_long : length b.titles ≡ 16000) (rules_long : length b.rules ≡ 32000) (i : ℕ) (in_table : Within 999 i) (other_title : title ≢ some i)
     (other-rule : rule ≢ some i) where
-  same_title : title_at after.titles i ≡ title_at b.titles i
+  pub same_title : title_at after.titles i ≡ title_at b.titles i
   same_title = titles.others i (entry_inside 16 b.titles titles_long i in_table) other_title
 
   same_rule : rule_at after.rules i ≡ rule_at b.rules i

@@ -10,7 +10,7 @@ use Rattle.formats.specs.Row.{state_of}
 use Rattle.formats.specs.declared.head.Pair.{Pair}
 use Rattle.formats.specs.declared.facts.Facts.{Facts}
 use Rattle.formats.specs.declared.entry.EntryKind.{EntryKind}
-use Rattle.formats.specs.declared.entry.EntryKind.TheVariants.{Free, Copy, Full, Torn}
+use Rattle.formats.specs.declared.entry.EntryKind.TheVariants.{Free, Copy, Full, Torn, Spent}
 use Rattle.formats.specs.declared.row.RowState.{RowState}
 use Rattle.formats.specs.declared.row.RowState.TheVariants.{Empty, Here, Away, Gone, NoState}
 
@@ -80,24 +80,20 @@ sti_key_at b j = key_of (rule_at b.rules j)
 abbrev pub hash_at : Buffers → ℕ → ℕ
 hash_at b j = hash_of (rule_at b.rules j)
 
--- the kinds and states that calls need
-abbrev pub is_free : EntryKind → Bool
-is_free Free = true
-is_free Copy = false
-is_free Full = false
-is_free Torn = false
-
+-- the kinds and states that calls need, beside `is_vacant`
 abbrev pub is_copy : EntryKind → Bool
 is_copy Free = false
 is_copy Copy = true
 is_copy Full = false
 is_copy Torn = false
+is_copy Spent = false
 
 abbrev pub is_full : EntryKind → Bool
 is_full Free = false
 is_full Copy = false
 is_full Full = true
 is_full Torn = false
+is_full Spent = false
 
 abbrev pub is_empty : RowState → Bool
 is_empty Empty = true

@@ -2,6 +2,7 @@
 use Rattle.std.specs.Prelude.{ℕ, ◌%◌, ◌^◌, List, [], ◌∷◌, ◌++◌, Bool, true, false, not, ◌&&◌, ◌||◌, eqb}
 use Rattle.formats.specs.Facts.{facts_pass}
 use Rattle.formats.specs.Half.{key_of}
+use Rattle.formats.specs.Entry.{is_vacant}
 use Rattle.formats.specs.Rule.{hash_of}
 use Rattle.formats.specs.Head.{ledger_passes, ledger_application, titles_pass, rules_pass, rules_application}
 use Rattle.formats.specs.declared.head.Pair.{Pair}
@@ -11,7 +12,7 @@ use Rattle.requests.specs.declared.request.Argument.{Argument}
 use Rattle.requests.specs.declared.request.Argument.TheVariants.{Content, Entry}
 use Rattle.requests.specs.declared.request.Request.{Request}
 use Rattle.requests.specs.declared.request.Request.TheVariants.{Register, Record, CheckOut, CheckIn, MoveOut, MoveIn, Delete}
-use Rattle.calls.specs.Buffers.{Buffers, title_at, rule_at, state_at, row_facts, kind_at, content_at, facts_at, is_free, is_copy, is_full, is_empty, is_here, is_away, copies}
+use Rattle.calls.specs.Buffers.{Buffers, title_at, rule_at, state_at, row_facts, kind_at, content_at, facts_at, is_copy, is_full, is_empty, is_here, is_away, copies}
 use Rattle.calls.specs.Refusal.{Condition, ◌when◌, ◌unless◌}
 
 -- an argument past its limit: 4 of c, 5 of j
@@ -70,11 +71,11 @@ state_conditions pair (Register c f) b =
     11 unless is_empty (state_at b c.0)
     ∷ []
 state_conditions pair (Record c j f h) b =
-    10 unless is_free (kind_at b j.0)
+    10 unless is_vacant (kind_at b j.0)
     ∷ 11 unless is_empty (state_at b c.0)
     ∷ []
 state_conditions pair (CheckOut c j) b =
-    10 unless is_free (kind_at b j.0)
+    10 unless is_vacant (kind_at b j.0)
     ∷ 11 unless is_here (state_at b c.0)
     ∷ 12 when eqb (row_facts b c.0).permits 0
     ∷ []
@@ -92,7 +93,7 @@ state_conditions pair (MoveOut j h f) b =
     ∷ 16 when (leaves_key f.f1 (title_at b.titles j.0) || (looks_at_f2 pair && leaves_key f.f2 (rule_at b.rules j.0)))
     ∷ []
 state_conditions pair (MoveIn c j h) b =
-    10 unless is_free (kind_at b j.0)
+    10 unless is_vacant (kind_at b j.0)
     ∷ 11 unless is_here (state_at b c.0)
     ∷ 12 when may_not_move (row_facts b c.0).trigger (row_facts b c.0).rights
     ∷ 14 unless eqb (copies c.0 b.titles b.rules) 0

@@ -16,3 +16,5 @@ pub mod Pairs
 pub mod Report
 pub mod Preview
 pub mod Steps
+pub mod FourKinds
+pub mod Entries

@@ -5,7 +5,7 @@ use Rattle.formats.specs.Head.{LedgerHead, TitlesHead, RulesHead, ledger_applica
 use Rattle.formats.specs.declared.head.Pair.{Pair}
 use Rattle.formats.specs.declared.head.Pair.TheVariants.{Audio}
 use Rattle.formats.specs.declared.facts.Facts.{Facts}
-use Rattle.formats.specs.declared.entry.EntryKind.TheVariants.{Free, Copy, Full}
+use Rattle.formats.specs.declared.entry.EntryKind.TheVariants.{Free, Copy, Full, Spent}
 use Rattle.formats.specs.declared.row.RowState.TheVariants.{Empty, Here, Away}
 use Rattle.requests.specs.declared.request.Request.{Request}
 use Rattle.requests.specs.declared.request.Request.TheVariants.{Register, Record, CheckOut, CheckIn, MoveOut, MoveIn, Delete}
@@ -71,6 +71,10 @@ WipesTitleKey b j f1 = f1 % 2 ^ 56 ≢ title_key_at b j
 abbrev pub WipesStiKey : Buffers → ℕ → ℕ → Type 0
 WipesStiKey b j f2 = f2 % 2 ^ 56 ≢ sti_key_at b j
 
+-- a title may be put in entry j: W7, "Calls that needed a free entry accept free or spent"
+abbrev pub Vacant : Buffers → ℕ → Type 0
+Vacant b j = (kind_at b j ≡ Free) ⊎ (kind_at b j ≡ Spent)
+
 -- no entry of the card is a copy of c
 abbrev pub NoCopy : Buffers → ℕ → Type 0
 NoCopy b c = (i : ℕ) → Within 999 i → kind_at b i ≡ Copy → content_at b i ≢ c
@@ -80,11 +84,11 @@ abbrev pub head_needs : Pair → Buffers → List Need
 head_needs pair b = 7 needs LedgerHead b.ledger ∷ 8 needs TitlesHead pair b.titles ∷ 9 needs RulesOfLedger pair b ∷ []
 
 -- 1 register (c, facts): "row empty". It is lent the ledger only.
--- 2 record (c, j, facts, h): "row empty, entry free"
--- 3 check-out (c, j): "row here, entry free", and a permit left
+-- 2 record (c, j, facts, h): "row empty, entry free", or spent (W7)
+-- 3 check-out (c, j): "row here, entry free", or spent (W7), and a permit left
 -- 4 check-in (j, f1): "entry copy, its row here", its permits not 14
 -- 5 move out (j, h, f1-f4): "entry full, its row away"; the entry's facts allow it, and h is the stored C_HASH
--- 6 move in (c, j, h): "row here, entry free"; the row's facts allow it, and no copy of c is on the card
+-- 6 move in (c, j, h): "row here, entry free", or spent (W7); the row's facts allow it, and no copy of c is on the card
 -- 7 delete (j, f1-f4): a copy, "its row neither tested nor touched"; or a full entry, its row away
 -- "In picture calls condition 16 looks at f1 only.": what is asked of f2 is asked where the pair is audio
 abbrev pub needs_of : Pair → Request → Buffers → List Need
@@ -99,14 +103,14 @@ needs_of pair (Record c j f h) b =
     ∷ 5 needs Within 999 j.0
     ∷ 6 needs FactsInRange f
     ∷ (head_needs pair b
-    ++ (10 needs (kind_at b j.0 ≡ Free)
+    ++ (10 needs Vacant b j.0
     ∷ 11 needs (state_at b c.0 ≡ Empty)
     ∷ []))
 needs_of pair (CheckOut c j) b =
     4 needs Within 999 c.0
     ∷ 5 needs Within 999 j.0
     ∷ (head_needs pair b
-    ++ (10 needs (kind_at b j.0 ≡ Free)
+    ++ (10 needs Vacant b j.0
     ∷ 11 needs (state_at b c.0 ≡ Here (row_facts b c.0))
     ∷ 12 needs ((row_facts b c.0).permits ≢ 0)
     ∷ []))
@@ -131,7 +135,7 @@ needs_of pair (MoveIn c j h) b =
     4 needs Within 999 c.0
     ∷ 5 needs Within 999 j.0
     ∷ (head_needs pair b
-    ++ (10 needs (kind_at b j.0 ≡ Free)
+    ++ (10 needs Vacant b j.0
     ∷ 11 needs (state_at b c.0 ≡ Here (row_facts b c.0))
     ∷ 12 needs MayMove (row_facts b c.0)
     ∷ 14 needs NoCopy b c.0

@@ -13,7 +13,7 @@ use Rattle.formats.specs.declared.head.Pair.TheVariants.{Audio}
 use Rattle.formats.specs.declared.facts.ContentId.{ContentId}
 use Rattle.formats.specs.declared.facts.Facts.{Facts}
 use Rattle.formats.specs.declared.facts.Fillers.{Fillers}
-use Rattle.formats.specs.declared.entry.EntryKind.TheVariants.{Free, Copy, Full}
+use Rattle.formats.specs.declared.entry.EntryKind.TheVariants.{Copy, Full, Spent}
 use Rattle.formats.specs.declared.row.RowState.{RowState}
 use Rattle.formats.specs.declared.row.RowState.TheVariants.{Here, Away, Gone}
 use Rattle.requests.specs.declared.request.Request.{Request}
@@ -68,6 +68,11 @@ pub record RuleWiped (pair : Pair) (j : ℕ) (f : Fillers) (b after : Buffers) :
   pub overwritten : part (rule_at after.rules j) 0 8 ≡ bytes_of 8 f.f2
   pub key_gone : pair ≡ Audio → sti_key_at after j ≢ sti_key_at b j
 
+-- W7: entry j is spent, and has the ID of the title that was in it, so that it shows "which entry once had which loan"
+pub record EntrySpent (j : ℕ) (b after : Buffers) : Type 0 where
+  pub spent : kind_at after j ≡ Spent
+  pub id : content_at after j ≡ content_at b j
+
 -- 1 register: row "becomes here with the facts"
 pub record Registered (c : ℕ) (f : Facts) (b after : Buffers) : Type 0 where
   pub row : RowIs after c (Here f) (here_row f)
@@ -94,7 +99,7 @@ pub record CheckedOut (c j : ℕ) (b after : Buffers) : Type 0 where
 -- 4 check-in: "wiped; permits plus 1, or 15 unchanged"
 pub record CheckedIn (j f1 : ℕ) (b after : Buffers) : Type 0 where
   pub row : PermitsBecome b after (content_at b j) (one_more (row_facts b (content_at b j)).permits)
-  pub free : kind_at after j ≡ Free
+  pub entry : EntrySpent j b after
   pub title : TitleWiped j f1 b after
   pub rules : after.rules ≡ b.rules
 
@@ -102,7 +107,7 @@ pub record CheckedIn (j f1 : ℕ) (b after : Buffers) : Type 0 where
 pub record MovedOut (pair : Pair) (j : ℕ) (f : Fillers) (b after : Buffers) : Type 0 where
   pub row : RowIs after (content_at b j) (Here (row_facts after (content_at b j))) (here_row (row_facts after (content_at b j)))
   pub facts : Recounted (facts_at b j) (one_less (facts_at b j).rights) (facts_at b j).permits (row_facts after (content_at b j))
-  pub free : kind_at after j ≡ Free
+  pub entry : EntrySpent j b after
   pub title : TitleWiped j f.f1 b after
   pub rule : RuleWiped pair j f b after
 
@@ -114,7 +119,7 @@ pub record MovedIn (c j h : ℕ) (b after : Buffers) : Type 0 where
 
 -- 7 delete: "a copy has its title half wiped, its row neither tested nor touched"
 pub record CopyDeleted (j : ℕ) (f : Fillers) (b after : Buffers) : Type 0 where
-  pub free : kind_at after j ≡ Free
+  pub entry : EntrySpent j b after
   pub title : TitleWiped j f.f1 b after
   pub ledger : after.ledger ≡ b.ledger
   pub rules : after.rules ≡ b.rules
@@ -122,7 +127,7 @@ pub record CopyDeleted (j : ℕ) (f : Fillers) (b after : Buffers) : Type 0 wher
 -- "a full entry has both halves wiped and its row, away, becomes gone"
 pub record HolderDeleted (pair : Pair) (j : ℕ) (f : Fillers) (b after : Buffers) : Type 0 where
   pub row : RowIs after (content_at b j) Gone (plain_row 3)
-  pub free : kind_at after j ≡ Free
+  pub entry : EntrySpent j b after
   pub title : TitleWiped j f.f1 b after
   pub rule : RuleWiped pair j f b after
 

@@ -5,7 +5,7 @@ use mathlib.Core.Path.{◌≡◌, refl, sym, ap, ap₂, ◌∙◌}
 use mathlib.Core.Logic.{◌≢◌, ◌⊎◌, inl, inr}
 use mathlib.Core.List.{List, [], ◌∷◌, ◌++◌, append-nil, append_assoc}
 use mathlib.Core.Option.{none, some}
-use mathlib.Core.Bool.{false, true≢false}
+use mathlib.Core.Bool.{Bool, true, false, true≢false}
 use native.Mathlib.Omega.{arith}
 use native.Mathlib.Decide.{ℕ_discrete}
 use borrow.Author.Tests.{ne_eqb}
@@ -15,18 +15,21 @@ use Rattle.formats.specs.declared.row.RowState.{RowState}
 use Rattle.formats.specs.declared.row.RowState.TheVariants.{Empty, Here, Away, Gone, NoState}
 use Rattle.formats.specs.declared.entry.EntryKind.{EntryKind}
 use Rattle.formats.specs.Entry.{entry_facts}
-use Rattle.calls.specs.Buffers.{Buffers, state_at, kind_at, content_at, facts_at, is_empty, no_facts, Within, title_at, rule_at, full_with}
-use Rattle.calls.specs.History.{Action, granted, checked_out, checked_in, moved, copy_deleted, holder_deleted, actions, times, grant, start, run}
+use Rattle.calls.specs.Buffers.{Buffers, state_at, kind_at, content_at, facts_at, is_empty, one, no_facts, Within, title_at, rule_at, full_with}
+use Rattle.calls.specs.History.{LastPut, nothing, a_copy, the_holder, Action, granted, checked_out, checked_in, moved, copy_deleted, holder_deleted, actions, times, grant, start, run}
+use Rattle.calls.specs.Entries.{kind_told}
+use Rattle.calls.proofs.Entries.{Told, told}
 use Rattle.calls.proofs.First.{first_none, first_holds}
 use Rattle.calls.proofs.Views.{inside, view, place_by, full_entry, copies_seen}
+use Rattle.calls.proofs.History.Totals.{total_same}
 use Rattle.calls.proofs.History.Titles.{full, Accounts, TitleInvariant}
 use Rattle.calls.proofs.History.Step.{At, copies_in, fulls_in, holder_found}
 use Rattle.calls.proofs.History.Always.{sound, in_a_state}
-use Rattle.tables.specs.ByTitle.{first_full}
+use Rattle.tables.specs.ByTitle.{first_full, is_spent, spent_entries}
 use Rattle.closing_sheet.specs.declared.line.Line.{Line}
-use Rattle.closing_sheet.specs.Sheet.{state_shown, line_with, line_of, line_text, row_text, rows_text, total_line, permits_total, copies_total, sheet_text}
+use Rattle.closing_sheet.specs.Sheet.{state_shown, line_with, line_of, line_text, row_text, rows_text, sheet_text}
 use Rattle.closing_sheet.specs.History.{Printed, TitleOnSheet, SheetAddsUp}
-use Rattle.closing_sheet.proofs.sheet.Laws.{not_empty, row_printed}
+use Rattle.closing_sheet.proofs.sheet.Laws.{not_empty, row_printed, last_of}
 use Rattle.closing_sheet.proofs.Shows.{holds_at, says, line_shows}
 
 -- A ROW'S LINE STANDS IN THE TEXT
@@ -64,7 +67,7 @@ is_printed : (b : Buffers) (c : ℕ) → state_at b c ≢ Empty → state_at b c
 unfolding sheet_text
 is_printed b c not-blank in-one =
     let a = among b c (not_empty (state_at b c) not-blank) (rows_of b.ledger) (inside b.ledger c in-one) in
-    let last = total_line (permits_total b) (copies_total b) in
+    let last = last_of b in
     record {
       after = a.after ++ last;
       is =
@@ -164,6 +167,17 @@ module _ (c : ℕ) (acts : List Action) (b : Buffers) where
   only_granted e Gone in_one st = absurd (omega (arith, st.once no_facts, grant_none acts e no_facts))
   only_granted e NoState in_one st = absurd (in_one refl)
 
+-- AN ENTRY is spent where a title was taken from it
+told_spent : (put : LastPut) (taken : Bool) → (put ≡ nothing → taken ≡ false) → is_spent (kind_told put taken) ≡ taken
+told_spent nothing taken never = sym (never refl)
+told_spent (a_copy c) true never = refl
+told_spent (a_copy c) false never = refl
+told_spent (the_holder c) true never = refl
+told_spent (the_holder c) false never = refl
+
+spent_is : {b : Buffers} {j : ℕ} {put : LastPut} {taken : Bool} → Told b j put taken → is_spent (kind_at b j) ≡ taken
+spent_is {put = put} {taken = taken} t = ap is_spent t.kind ∙ told_spent put taken t.never
+
 pub sheet_adds_up : SheetAddsUp
 sheet_adds_up pair rows application card_application low high ks =
     let w = run pair ks (start pair rows application card_application) in
@@ -172,4 +186,5 @@ sheet_adds_up pair rows application card_application low high ks =
       titles = λ c f e. on_sheet c (actions c w.log) w.buffers f e (state_at w.buffers c) refl (s.inv.titles c);
       no_other = λ c l e.
           only_granted c (actions c w.log) w.buffers e (state_at w.buffers c) (in_a_state pair rows application card_application low high ks c l) (s.inv.titles c);
+      spent = unfold spent_entries in total_same 999 _ _ (λ j l. ap one (spent_is (told pair rows application card_application ks j l)));
     }

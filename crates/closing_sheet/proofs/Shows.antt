@@ -3,6 +3,7 @@
 use Prim.Native.Nat.{ℕ, zero, suc, ◌+◌, ◌≤◌, ◌<◌}
 use Rattle.std.specs.Prelude.{codes}
 use mathlib.Core.Path.{◌≡◌, refl, sym, ap, ap₂, ◌∙◌}
+use mathlib.Core.Logic.{◌≢◌}
 use mathlib.Core.List.{List, [], ◌++◌, append-nil}
 use mathlib.Core.Bool.{Bool, true, false, true≢false}
 use native.Mathlib.Omega.{arith}
@@ -12,27 +13,24 @@ use borrow.Author.Tests.{eq-eqb, ne_eqb, eqb-true}
 use Rattle.formats.specs.Head.{rows_of}
 use Rattle.formats.specs.declared.head.Pair.{Pair}
 use Rattle.formats.specs.declared.entry.EntryKind.{EntryKind}
-use Rattle.formats.specs.declared.entry.EntryKind.TheVariants.{Free, Copy, Full, Torn}
+use Rattle.formats.specs.declared.entry.EntryKind.TheVariants.{Free, Copy, Full, Torn, Spent}
 use Rattle.formats.specs.Entry.{entry_facts}
 use Rattle.formats.proofs.Tests.{split, both, refuted}
 use Rattle.formats.proofs.head.Laws.{fresh_rows}
-use Rattle.calls.specs.Buffers.{Buffers, state_at, kind_at, content_at, is_empty, is_full, total, fresh, Within, title_at, rule_at, full_with}
+use Rattle.calls.specs.Buffers.{Buffers, state_at, kind_at, content_at, is_empty, is_full, one, total, fresh, Within, title_at, rule_at, full_with}
+use Rattle.calls.proofs.Passed.{is_full_lem}
+use Rattle.calls.proofs.Refusals.{holds_not}
 use Rattle.calls.proofs.First.{first_holds, first_is}
-use Rattle.calls.proofs.Fresh.{fresh_empty}
-use Rattle.tables.specs.ByTitle.{first_full}
+use Rattle.calls.proofs.Fresh.{fresh_empty, fresh_free}
+use Rattle.calls.proofs.History.Totals.{total_none}
+use Rattle.tables.specs.ByTitle.{first_full, is_spent, spent_at, spent_entries}
 use Rattle.text.specs.Text.{decimal_in, decimal, field, line}
-use Rattle.closing_sheet.specs.Sheet.{line_with, line_of, rows_text, permits_added, copies_added, permits_total, copies_total, total_line, sheet_text, line_text}
-use Rattle.closing_sheet.specs.Shows.{NoFullBefore, LineShows, TextOf, Totals, SampleLines, SheetShows}
+use Rattle.closing_sheet.specs.Sheet.{line_with, line_of, rows_text, permits_added, copies_added, permits_total, copies_total, total_line, spent_line, last_lines, sheet_text, line_text}
+use Rattle.closing_sheet.specs.Shows.{NoFullBefore, LineShows, TextOf, Totals, SpentCounted, SampleLines, SheetShows}
 use Rattle.closing_sheet.proofs.Sample.{sample_sheet}
 use Rattle.closing_sheet.proofs.sheet.Laws.{not_empty, row_empty, row_printed, rows_next}
 
 -- THE FACTS ON THE CARD
-
-is_full_lem : (k : EntryKind) → is_full k ≡ true → k ≡ Full
-is_full_lem Free e = absurd (true≢false (sym e))
-is_full_lem Copy e = absurd (true≢false (sym e))
-is_full_lem Full e = refl
-is_full_lem Torn e = absurd (true≢false (sym e))
 
 module _ (b : Buffers) (c : ℕ) where
   abbrev test : ℕ → Bool
@@ -42,7 +40,7 @@ module _ (b : Buffers) (c : ℕ) where
   holds_at j kind id = both (ap is_full kind) (eq-eqb (content_at b j) c id)
 
   pub says : (j : ℕ) → test j ≡ true → (kind_at b j ≡ Full) × (content_at b j ≡ c)
-  says j e = let (kind, id) = split (is_full (kind_at b j)) (eqb (content_at b j) c) e in (is_full_lem (kind_at b j) kind, eqb-true (content_at b j) c id)
+  says j e = let (kind, id) = split (is_full (kind_at b j)) (eqb (content_at b j) c) e in (is_full_lem (kind_at b j) (holds_not kind), eqb-true (content_at b j) c id)
 
   fails_before : (j i : ℕ) → NoFullBefore b c j → Within 999 i → i < j → test i ≡ false
   fails_before j i none l h = refuted (λ e. let (kind, id) = says i e in none i l.from h kind id)
@@ -81,7 +79,7 @@ module _ (b : Buffers) where
         starts = unfold rows_text in refl;
         printed = λ c some. rows_next b c ∙ ap (λ (l : List ℕ). rows_text c b ++ l) (row_printed b (c + 1) (not_empty (state_at b (c + 1)) some)).0;
         not_printed = λ c none. rows_next b c ∙ ap (λ (l : List ℕ). rows_text c b ++ l) (row_empty b (c + 1) (ap is_empty none)).0 ∙ append-nil (rows_text c b);
-        ends = unfold sheet_text in refl;
+        ends = unfold sheet_text last_lines in refl;
       }
 
   sums : Totals b (permits_added b) (copies_added b)
@@ -99,6 +97,23 @@ module _ (b : Buffers) where
       unlimited_adds c e true f = (row_empty b c f).1
       unlimited_adds c e false f = (row_printed b c f).1 ∙ rw (eq-eqb (line_of b c).permits 15 e) refl
 
+-- THE SPENT ENTRIES
+
+spent_counts : (k : EntryKind) → k ≢ Spent → one (is_spent k) ≡ 0
+spent_counts Free other = refl
+spent_counts Copy other = refl
+spent_counts Full other = refl
+spent_counts Torn other = refl
+spent_counts Spent other = absurd (other refl)
+
+spent_counted : (b : Buffers) → SpentCounted b (λ j. one (spent_at b.titles b.rules j))
+spent_counted b =
+    record {
+      number = unfold spent_entries in refl;
+      of_spent = λ j e. ap (λ k. one (is_spent k)) e;
+      of_other = λ j other. spent_counts (kind_at b j) other;
+    }
+
 -- A FRESH LEDGER AND CARD
 
 module _ (pair : Pair) (rows application card_application : ℕ) (low : 1 ≤ rows) (high : rows ≤ 999) where
@@ -113,18 +128,22 @@ module _ (pair : Pair) (rows application card_application : ℕ) (low : 1 ≤ ro
       let (t, p, c) = row_empty b₀ (suc n) (ap is_empty (fresh_empty pair rows application card_application high (suc n) (record { from = omega arith; to = few }))) in
       (ap₂ ◌++◌ text t, omega arith, omega arith)
 
-  fresh_sheet : sheet_text b₀ ≡ codes "total 0 0\n"
-  unfolding sheet_text permits_total copies_total total_line line field decimal decimal_in
+  none_spent : spent_entries b₀.titles b₀.rules ≡ 0
+  unfolding spent_entries
+  none_spent = total_none 999 _ (λ j l. ap (λ k. one (is_spent k)) (fresh_free pair rows application card_application j l))
+
+  fresh_sheet : sheet_text b₀ ≡ codes "total 0 0\nspent 0\n"
+  unfolding sheet_text permits_total copies_total last_lines total_line spent_line line field decimal decimal_in
   fresh_sheet =
       let r : rows_of b₀.ledger ≡ rows = fresh_rows rows application (omega arith) in
       let (text, permits, copies) = nothing_printed rows (omega arith) in
-      rw (r, text, permits, copies) refl
+      rw (r, text, permits, copies, none_spent) refl
 
--- FIVE NUMBERS, each another, and two sums
+-- FIVE NUMBERS, each another, two sums, and a number of spent entries
 samples : SampleLines
-unfolding line_text total_line line field decimal decimal_in
-samples = record { a_line = refl; the_last = refl }
+unfolding line_text total_line spent_line line field decimal decimal_in
+samples = record { a_line = refl; the_totals = refl; the_last = refl }
 
 -- ALL OF IT
 pub sheet_shows : SheetShows
-sheet_shows = record { lines = line_shows; text = λ b. (_, text_of b); sums = λ b. (_, _, sums b); samples = samples; a_sheet = sample_sheet; fresh_sheet = fresh_sheet }
+sheet_shows = record { lines = line_shows; text = λ b. (_, text_of b); sums = λ b. (_, _, sums b); spent = λ b. (_, spent_counted b); samples = samples; a_sheet = sample_sheet; fresh_sheet = fresh_sheet }

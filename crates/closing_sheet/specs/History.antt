@@ -5,8 +5,10 @@ use Rattle.formats.specs.declared.head.Pair.{Pair}
 use Rattle.formats.specs.declared.facts.Facts.{Facts}
 use Rattle.formats.specs.declared.row.RowState.TheVariants.{Empty}
 use Rattle.requests.specs.declared.request.Request.{Request}
-use Rattle.calls.specs.Buffers.{Buffers, state_at, Within}
+use Rattle.calls.specs.Buffers.{Buffers, state_at, one, total, Within}
 use Rattle.calls.specs.History.{Run, Action, moved, copy_deleted, holder_deleted, actions, times, grant, Account, start, run}
+use Rattle.calls.specs.Entries.{taken_from}
+use Rattle.tables.specs.ByTitle.{spent_entries}
 use Rattle.closing_sheet.specs.Sheet.{line_of, line_text, rows_text, sheet_text}
 use Rattle.closing_sheet.specs.Shows.{Shows}
 
@@ -29,6 +31,8 @@ pub record TitleOnSheet (c : ℕ) (f : Facts) (acts : List Action) (b : Buffers)
 pub record OnSheet (rows : ℕ) (w : Run) : Type 0 where
   pub titles : (c : ℕ) (f : Facts) → grant (actions c w.log) ≡ some f → TitleOnSheet c f (actions c w.log) w.buffers
   pub no_other : (c : ℕ) → Within rows c → grant (actions c w.log) ≡ none → state_at w.buffers c ≡ Empty
+  -- W7: the number behind `spent`, which ends the text (`Shows`), is that of the entries from which a copy or a title was taken
+  pub spent : spent_entries w.buffers.titles w.buffers.rules ≡ total 999 (λ j. one (taken_from j w.log))
 
 abbrev pub SheetAddsUp : Type 0
 SheetAddsUp =

@@ -1,4 +1,5 @@
--- The closing sheet of a ledger and a card: a line for each row that is not empty, and the totals. The quotes are document 02's.
+-- The closing sheet of a ledger and a card: a line for each row that is not empty, the totals, and the number of spent entries. The
+-- quotes are document 02's.
 use Rattle.std.specs.Prelude.{codes, ℕ, zero, suc, ◌*◌, List, [], ◌∷◌, ◌++◌, Option, None, Some, cond, length, get_or, ltb, eqb}
 use Rattle.formats.specs.Head.{rows_of}
 use Rattle.formats.specs.Part.{put}
@@ -11,7 +12,7 @@ use Rattle.formats.specs.Rule.{rights_of, permits_of}
 use Rattle.calls.specs.Buffers.{Buffers, rule_at, state_in, state_at, is_empty, copies, total}
 use Rattle.calls.specs.Conditions.{all_head_conditions}
 use Rattle.calls.specs.Refusal.{Condition, ◌when◌, first}
-use Rattle.tables.specs.ByTitle.{first_full}
+use Rattle.tables.specs.ByTitle.{first_full, spent_entries}
 use Rattle.text.specs.Text.{line}
 use Rattle.closing_sheet.specs.declared.line.Line.{Line}
 
@@ -93,13 +94,25 @@ copies_total b = total (rows_of b.ledger) (copies_added b)
 abbrev pub total_word : List ℕ
 total_word = codes "total "
 
--- "The last line is `total`, then the sums"
+-- "`total`, then the sums"
 unfoldable pub total_line : ℕ → ℕ → List ℕ
 total_line permits copies = total_word ++ line (permits ∷ copies ∷ [])
 
+-- `spent` and a space
+abbrev pub spent_word : List ℕ
+spent_word = codes "spent "
+
+-- W7: "a line `spent` and their number"
+unfoldable pub spent_line : ℕ → List ℕ
+spent_line spent = spent_word ++ line (spent ∷ [])
+
+-- W7: "The sheet ends with" it, "after `total`"
+unfoldable pub last_lines : ℕ → ℕ → ℕ → List ℕ
+last_lines permits copies spent = total_line permits copies ++ spent_line spent
+
 -- THE SHEET
 unfoldable pub sheet_text : Buffers → List ℕ
-sheet_text b = rows_text (rows_of b.ledger) b ++ total_line (permits_total b) (copies_total b)
+sheet_text b = rows_text (rows_of b.ledger) b ++ last_lines (permits_total b) (copies_total b) (spent_entries b.titles b.rules)
 
 -- WRITING IT into a lent text: 7, 8 and 9 as for a call, then 1 where the text has no room for the sheet
 abbrev pub sheet_conditions : Pair → Buffers → List ℕ → List Condition

@@ -6,9 +6,9 @@ ghost use Rattle.formats.specs.Refusal.{answer_of};
 ghost use Rattle.requests.specs.Number.{count_values, written_answer};
 ghost use Rattle.calls.specs.Buffers.{buffers_of, state_in, copies};
 ghost use Rattle.calls.specs.Perform.{AreBytes};
-ghost use Rattle.tables.specs.ByTitle.{first_full, ForEach};
+ghost use Rattle.tables.specs.ByTitle.{first_full, spent_entries, ForEach};
 ghost use Rattle.tables.specs.Shop.{lent};
-ghost use Rattle.closing_sheet.specs.Sheet.{permits_on_card, rights_on_card, line_of, printed, rows_text, other_than_15, permits_total, copies_total, total_line, sheet_text, sheet_writing, sheet_written_to};
+ghost use Rattle.closing_sheet.specs.Sheet.{permits_on_card, rights_on_card, line_of, printed, rows_text, other_than_15, permits_total, copies_total, last_lines, sheet_text, sheet_writing, sheet_written_to};
 
 use crate::line::Line;
 use formats::facts::{ContentId, EntryNumber};
@@ -16,7 +16,7 @@ use formats::head::Pair;
 use formats::refusal::Refusal;
 use formats::row::RowState;
 use formats::{head, row, rule, table};
-use tables::by_title::OnCard;
+use tables::by_title::{CardContents, OnCard};
 use tables::shop::Shop;
 use tables::{by_title, ledger};
 use text::Text;
@@ -31,50 +31,54 @@ fn other_than_15(permits: u64) -> u64
     if permits == 15 { 0 } else { permits }
 }
 
-// The sums of the last line.
-#[derive(Clone, Copy, Debug, Default, PartialEq, Eq)]
-pub struct Sums {
+// The numbers of the last two lines: the sums, and how many entries are spent.
+#[derive(Clone, Copy, Debug, PartialEq, Eq)]
+pub struct LastLines {
     pub permits: u64,
     pub copies: u64,
+    pub spent: u64,
 }
 
-impl Sums {
+impl LastLines {
     // Adds what a line adds.
     fn add(&mut self, line: Line)
         requires permits { self.old.permits + other_than_15 line.permits < 2 ^ 64 }
         requires copies { self.old.copies + line.copies < 2 ^ 64 }
         ensures permits { self.new.permits ≡ self.old.permits + other_than_15 line.permits }
         ensures copies { self.new.copies ≡ self.old.copies + line.copies }
+        ensures spent { self.new.spent ≡ self.old.spent }
     {
         self.permits += other_than_15(line.permits);
         self.copies += line.copies;
     }
 
-    // How many bytes the last line has.
+    // How many bytes the last two lines have.
     fn len(self) -> usize
-        ensures text_length { result ≡ length (total_line self.permits self.copies) }
-        ensures at_most_48 { result ≤ 48 }
+        ensures text_length { result ≡ length (last_lines self.permits self.copies self.spent) }
+        ensures at_most_75 { result ≤ 75 }
     {
-        text::len(self.permits) + text::len(self.copies) + 8
+        text::len(self.permits) + text::len(self.copies) + text::len(self.spent) + 15
     }
 
-    // Writes the last line, for which there is room. No `Display`, as `Text` says.
+    // Writes the last two lines, for which there is room. No `Display`, as `Text` says.
     fn write(self, text: &mut Text)
-        requires { text.old.at + length (total_line self.permits self.copies) ≤ length text.old.out.now }
-        ensures place { text.new.at ≡ text.old.at + length (total_line self.permits self.copies) }
-        ensures written { text.new.out.now ≡ put text.old.out.now text.old.at (total_line self.permits self.copies) }
+        requires { text.old.at + length (last_lines self.permits self.copies self.spent) ≤ length text.old.out.now }
+        ensures place { text.new.at ≡ text.old.at + length (last_lines self.permits self.copies self.spent) }
+        ensures written { text.new.out.now ≡ put text.old.out.now text.old.at (last_lines self.permits self.copies self.spent) }
         ensures name { text.new.out.ghost_name ≡ text.old.out.ghost_name }
     {
         text.word(b"total ");
         text.number(self.permits, b' ');
         text.number(self.copies, b'\n');
+        text.word(b"spent ");
+        text.number(self.spent, b'\n');
     }
 }
 
-// The sums of a sheet, and how many bytes it has as text.
+// The numbers of a sheet's last two lines, and how many bytes it has as text.
 #[derive(Clone, Copy, Debug, PartialEq, Eq)]
 pub struct Summary {
-    pub sums: Sums,
+    pub sums: LastLines,
     pub len: usize,
 }
 
@@ -92,12 +96,13 @@ fn first_byte(ledger: &[u8], content: ContentId) -> u8
     table::byte(table::slot::<24>(ledger, content.0), 0)
 }
 
-// A shop, with what its card has of each title.
+// A shop, with what its card has.
 #[derive(Drop)]
 struct Sheet<'a> {
     shop: Shop<'a>,
-    places: [OnCard; 1000],
-    ghost known: { ForEach shop.card.titles.now shop.card.rules.now places },
+    contents: CardContents,
+    ghost known: { ForEach shop.card.titles.now shop.card.rules.now contents.places },
+    ghost spent: { contents.spent ≡ spent_entries shop.card.titles.now shop.card.rules.now },
     ghost bytes: { AreBytes (lent shop) },
 }
 
@@ -109,7 +114,7 @@ impl<'a> Sheet<'a> {
         let shop = Shop::new(ledger, titles, rules);
         Sheet {
             shop,
-            places: by_title::places(shop.card),
+            contents: by_title::contents(shop.card),
         }
     }
 }
@@ -119,7 +124,8 @@ impl Sheet<'_> {
     fn copies(&self, content: ContentId) -> u64
         ensures { result ≡ copies content.0 self.now.shop.card.titles.now self.now.shop.card.rules.now }
     {
-        self.places
+        self.contents
+            .places
             .get(content.0 as usize)
             .map_or(0, |place| u64::from(place.copies))
     }
@@ -133,7 +139,7 @@ impl Sheet<'_> {
             ≡ rights_on_card self.now.shop.card.rules.now
             (first_full content.0 self.now.shop.card.titles.now self.now.shop.card.rules.now) }
     {
-        match self.places.get(content.0 as usize) {
+        match self.contents.places.get(content.0 as usize) {
             None | Some(OnCard { first_full: 0, .. }) => Counts::default(),
             Some(place) => {
                 let entry = EntryNumber(u64::from(place.first_full));
@@ -184,12 +190,26 @@ impl Sheet<'_> {
         }
     }
 
+    // They as they are before any line is added.
+    fn before_lines(&self) -> LastLines
+        ensures permits { result.permits ≡ 0 }
+        ensures copies { result.copies ≡ 0 }
+        ensures spent { result.spent ≡ spent_entries self.now.shop.card.titles.now self.now.shop.card.rules.now }
+    {
+        LastLines {
+            permits: 0,
+            copies: 0,
+            spent: self.contents.spent,
+        }
+    }
+
     fn summary(&self) -> Summary
         ensures permits_total { result.sums.permits ≡ permits_total (lent self.now.shop) }
         ensures copies_total { result.sums.copies ≡ copies_total (lent self.now.shop) }
+        ensures spent { result.sums.spent ≡ spent_entries self.now.shop.card.titles.now self.now.shop.card.rules.now }
         ensures text_length { result.len ≡ length (sheet_text (lent self.now.shop)) }
     {
-        let mut sums = Sums::default();
+        let mut sums = self.before_lines();
         let mut len = 0;
         for k in 0..head::rows(self.shop.ledger) {
             if let Some(line) = self.printed(ContentId(k + 1)) {
@@ -212,17 +232,18 @@ impl Sheet<'_> {
     }
 
     // Writes the lines of all rows, lowest first, for which there is room; answers the sums.
-    fn write_rows(&self, text: &mut Text) -> Sums
+    fn write_rows(&self, text: &mut Text) -> LastLines
         requires front { text.old.at ≡ 0 }
         requires room { length (rows_text (rows_of self.now.shop.ledger.now) (lent self.now.shop)) ≤ length text.old.out.now }
         ensures permits_total { result.permits ≡ permits_total (lent self.now.shop) }
         ensures copies_total { result.copies ≡ copies_total (lent self.now.shop) }
+        ensures spent { result.spent ≡ spent_entries self.now.shop.card.titles.now self.now.shop.card.rules.now }
         ensures place { text.new.at ≡ length (rows_text (rows_of self.now.shop.ledger.now) (lent self.now.shop)) }
         ensures written { text.new.out.now
             ≡ put text.old.out.now 0 (rows_text (rows_of self.now.shop.ledger.now) (lent self.now.shop)) }
         ensures name { text.new.out.ghost_name ≡ text.old.out.ghost_name }
     {
-        let mut sums = Sums::default();
+        let mut sums = self.before_lines();
         for k in 0..head::rows(self.shop.ledger) {
             if let Some(line) = self.printed(ContentId(k + 1)) {
                 sums.add(line);
@@ -243,10 +264,11 @@ pub fn row_line(shop: Shop, content: ContentId) -> Line
     )
 }
 
-// The totals of a ledger and a card.
+// The numbers of the last two lines of a ledger and a card, and the length of their sheet.
 pub fn totals(shop: Shop) -> Summary
     ensures permits_total { result.sums.permits ≡ permits_total (lent shop.entry) }
     ensures copies_total { result.sums.copies ≡ copies_total (lent shop.entry) }
+    ensures spent { result.sums.spent ≡ spent_entries shop.entry.card.titles.now shop.entry.card.rules.now }
     ensures text_length { result.len ≡ length (sheet_text (lent shop.entry)) }
 {
     Sheet::of(shop.ledger, shop.card.titles, shop.card.rules).summary()

@@ -8,7 +8,7 @@ use native.Mathlib.Numerals.{add-one}
 use native.Mathlib.Nat.{add-zero, zero-add, suc-add, add-suc}
 use lib.ListN.{length, take, drop, get_or, replicate, length-append, length-take, length-replicate, drop_of_length-le}
 use lib.Seq.{drop-cons}
-use Rattle.std.specs.Prelude.{Result, Ok, Err}
+use Rattle.std.specs.Prelude.{Result}
 use Rattle.io.specs.Counts.{IsPrefixLen}
 use Rattle.formats.specs.Part.{put}
 use Rattle.formats.specs.declared.head.Pair.{Pair}

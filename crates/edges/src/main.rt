@@ -29,7 +29,7 @@
 //   23  a title table and a rule table, the front of each: content ID, length of the first; whether there is a copy of that title,
 //       and how many entries a search for it reads
 //   31  a ledger, a title table and a rule table, the front of each: row, lengths of the first two; the five numbers of that
-//       row's line, and the totals, with the length of the sheet
+//       row's line, and the totals: permits, copies, spent entries, and the length of the sheet
 //   32  requests, served as 05, and then a move in: content ID, entry number, which tables it is lent but for their last byte (1 the
 //       ledger, 2 the titles, 4 the rules, added up); its answer, and how many entries its check for copies read
 //   33  the same, on a card of pictures

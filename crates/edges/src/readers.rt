@@ -94,13 +94,14 @@ fn state(found: RowState) {
     }
 }
 
-// The kind by its number, 0 free, 1 copy, 2 full, 3 torn, and the facts.
+// The kind by its number, 0 free, 1 copy, 2 full, 3 torn, 4 spent, and the facts.
 fn entry(found: Entry) {
     match found.kind() {
         EntryKind::Free => print::number(0),
         EntryKind::Copy => print::number(1),
         EntryKind::Full => print::number(2),
         EntryKind::Torn => print::number(3),
+        EntryKind::Spent => print::number(4),
     }
     facts(found.facts());
 }
@@ -156,6 +157,7 @@ fn closing(c: u64, ledger_len: usize, titles_len: usize, part: &[u8]) {
     let totals = sheet::totals(shop);
     print::number(totals.sums.permits);
     print::number(totals.sums.copies);
+    print::number(totals.sums.spent);
     print::number(totals.len as u64);
 }
 

@@ -10,37 +10,37 @@ use native.Mathlib.Nat.{mod-eq_of_lt}
 use native.Mathlib.Decide.{dec_le, ℕ_discrete}
 use lib.ListN.{length, get_or, replicate}
 use lib.Seq.{get_or-take}
-use borrow.Author.Tests.{le-leb, lt-leb, ne_eqb}
+use borrow.Author.Tests.{le-leb, lt-leb, leb-false, ne_eqb, not-true}
 use Rattle.formats.specs.Bytes.{Bytes}
 use Rattle.formats.specs.Part.{put}
 use Rattle.formats.specs.Field.{number, bytes_of}
-use Rattle.formats.specs.Half.{id_of, usable_of, half_bytes, wiped}
+use Rattle.formats.specs.Half.{id_of, usable_of, names_spent, half_bytes, wiped}
 use Rattle.formats.specs.Title.{title_half}
 use Rattle.formats.specs.Rule.{rule_half, wiped_rule}
-use Rattle.formats.specs.Entry.{kind_of, entry_facts}
+use Rattle.formats.specs.Entry.{kind_of, is_vacant, entry_facts}
 use Rattle.formats.specs.declared.head.Pair.{Pair}
 use Rattle.formats.specs.declared.head.Pair.TheVariants.{Audio, Picture}
 use Rattle.formats.specs.Head.{titles_identifier, rules_identifier, fresh_ledger, table_head, fresh_titles, fresh_rules}
 use Rattle.formats.specs.Facts.{in_range}
 use Rattle.formats.specs.Row.{facts_of, state_of, here_row, plain_row, with_permits}
-use Rattle.formats.specs.Layout.{Fields, WipedTitle, WipedRule, WrittenHalf, WrittenTitle, WrittenRule, WrittenHere, WrittenPlain, ChangedPermits, InRanges, HoldsHere, HoldsNone, States, SameButZeros, content_id, Usable, HoldsFree, HoldsCopy, HoldsFull, HoldsTorn, Kinds, HoldsFacts, FreshLedger, FreshCard, Halves, Heads, Rows, Entries, Fresh, Layout, titles_letter, rules_letter}
+use Rattle.formats.specs.Layout.{Fields, WipedTitle, WipedRule, WrittenHalf, WrittenTitle, WrittenRule, WrittenHere, WrittenPlain, ChangedPermits, InRanges, HoldsHere, HoldsNone, States, SameButZeros, content_id, Usable, NoneUsable, NamesSpent, HoldsSpent, HoldsFree, HoldsCopy, HoldsFull, HoldsTorn, Kinds, HoldsFacts, FreshLedger, FreshCard, Halves, Heads, Rows, Entries, Fresh, Layout, titles_letter, rules_letter}
 use Rattle.formats.specs.declared.facts.Facts.{Facts}
 use Rattle.formats.specs.declared.facts.Fillers.{Fillers}
 use Rattle.formats.specs.declared.entry.EntryKind.{EntryKind}
-use Rattle.formats.specs.declared.entry.EntryKind.TheVariants.{Free, Copy, Full, Torn}
+use Rattle.formats.specs.declared.entry.EntryKind.TheVariants.{Free, Copy, Full, Torn, Spent}
 use Rattle.formats.specs.declared.row.RowState.{RowState}
 use Rattle.formats.specs.declared.row.RowState.TheVariants.{Empty, Here, Away, Gone, NoState}
 use Rattle.formats.proofs.Bytes.{bytes, field}
 use Rattle.formats.proofs.Zeros.{zero_at}
-use Rattle.formats.proofs.Tests.{refuted}
+use Rattle.formats.proofs.Tests.{split, refuted}
 use Rattle.formats.proofs.field.Laws.{number_snoc, number_bytes_of, length_bytes_of}
 use Rattle.formats.proofs.facts.Laws.{ranges, in_range_lem, facts_same}
 use Rattle.formats.proofs.row.Laws.{is_empty_lem, is_here_lem, is_away_lem, is_gone, is_torn, is_none}
 use Rattle.formats.proofs.Cells.{of_cells, part_cells}
 use Rattle.formats.proofs.title.Laws.{length_title_half}
 use Rattle.formats.proofs.rule.Laws.{length_rule_half}
-use Rattle.formats.proofs.half.Laws.{usable_id_lem, flagged, not_flagged}
-use Rattle.formats.proofs.entry.Laws.{kind_free, copy_beside, full_beside, of_free, of_copy, of_full}
+use Rattle.formats.proofs.half.Laws.{usable_id_lem, flagged, not_flagged, names_lem, names_says}
+use Rattle.formats.proofs.entry.Laws.{kind_free, kind_spent, vacant_lem, vacant_by, copy_beside, full_beside, IsVacant, of_free, of_spent, of_copy, of_full}
 use Rattle.formats.proofs.head.Laws.{ledger_head, ledger_passes_lem, titles_head, titles_pass_lem, rules_head, rules_pass_lem, titles_of_one, rules_of_one, fresh_ledger_length, fresh_titles_length, fresh_rules_length}
 
 fields : Fields
@@ -278,10 +278,25 @@ module _ (t r : List ℕ) (t-size : length t ≡ 16) (r-size : length r ≡ 32) 
   r_id : content_id r ≡ id_of r
   r_id = id_same r r_long r-byte
 
+  none_usable : {named : Bool} → IsVacant t r named → NoneUsable t r
+  none_usable k = record { title = not_usable t t_long t-byte k.title_unusable; rule = not_usable r r_long r-byte k.rule_unusable }
+
+  holds_spent : kind_of t r ≡ Spent → HoldsSpent t r
+  holds_spent e =
+      let k = of_spent t r e in
+      let n = names_says t k.names in
+      record {
+        unusable = none_usable k;
+        names = record { flag = leb-false 128 (get_or t 8 0) n.flag; from = omega (arith, t_id, n.from); to = omega (arith, t_id, n.to) };
+      }
+
+  named_lem : NamesSpent t → names_spent t ≡ true
+  named_lem n = names_lem (record { whole = t_long; flag = lt-leb 128 (get_or t 8 0) n.flag; from = omega (arith, t_id, n.from); to = omega (arith, t_id, n.to) })
+
   holds_free : kind_of t r ≡ Free → HoldsFree t r
   holds_free e =
       let k = of_free t r e in
-      record { title = not_usable t t_long t-byte k.title_unusable; rule = not_usable r r_long r-byte k.rule_unusable }
+      record { unusable = none_usable k; not_spent = λ s. true≢false (sym (named_lem s.names) ∙ k.names) }
 
   holds_copy : kind_of t r ≡ Copy → HoldsCopy t r
   holds_copy e =
@@ -306,8 +321,31 @@ module _ (t r : List ℕ) (t-size : length t ≡ 16) (r-size : length r ≡ 32) 
         cci = s.cci_not_one;
       }
 
+  -- no half is usable: spent or free, by the title half
+  module _ (h : NoneUsable t r) where
+    title_no : usable_of t ≡ false
+    title_no = unusable t t_long t-byte h.title
+
+    rule_no : usable_of r ≡ false
+    rule_no = unusable r r_long r-byte h.rule
+
+    free_or_spent : (kind_of t r ≡ Free) ⊎ (kind_of t r ≡ Spent)
+    free_or_spent = by (names_spent t) refl
+      where
+        by : (x : Bool) → names_spent t ≡ x → (kind_of t r ≡ Free) ⊎ (kind_of t r ≡ Spent)
+        by true e = inr (kind_spent t r title_no rule_no e)
+        by false e = inl (kind_free t r title_no rule_no e)
+
+  none_where : is_vacant (kind_of t r) ≡ true → NoneUsable t r
+  none_where e =
+      let (title, rule) = split (not (usable_of t)) (not (usable_of r)) (vacant_lem t r ∙ e) in
+      record { title = not_usable t t_long t-byte (not-true _ title); rule = not_usable r r_long r-byte (not-true _ rule) }
+
+  is_spent_lem : HoldsSpent t r → kind_of t r ≡ Spent
+  is_spent_lem h = kind_spent t r (title_no h.unusable) (rule_no h.unusable) (named_lem h.names)
+
   is_free_lem : HoldsFree t r → kind_of t r ≡ Free
-  is_free_lem h = kind_free t r (unusable t t_long t-byte h.title) (unusable r r_long r-byte h.rule)
+  is_free_lem h = elim (free_or_spent h.unusable) [ inl free ↦ free | inr spent ↦ absurd (h.not_spent (holds_spent spent)) ]
 
   is_copy_lem : HoldsCopy t r → kind_of t r ≡ Copy
   is_copy_lem h = copy_beside t r (usable t t_long t-byte h.title) (omega (arith, t_id)) h.cci (unusable r r_long r-byte h.rule)
@@ -323,9 +361,10 @@ module _ (t r : List ℕ) (t-size : length t ≡ 16) (r-size : length r ≡ 32) 
         not_free = λ h. let k = is_free_lem h in let z : ◌≡◌ {A = ℕ} 0 1 = cc in omega arith;
         not_copy = λ h. let k = is_copy_lem h in let z : ◌≡◌ {A = ℕ} 0 1 = cc in omega arith;
         not_full = λ h. let k = is_full_lem h in let z : ◌≡◌ {A = ℕ} 0 1 = cc in omega arith;
+        not_spent = λ h. let k = is_spent_lem h in let z : ◌≡◌ {A = ℕ} 0 1 = cc in omega arith;
       }
 
-  -- the kind is one of the four
+  -- the kind is one of the five
   is_torn_entry : HoldsTorn t r → kind_of t r ≡ Torn
   is_torn_entry h = by (kind_of t r) refl
     where
@@ -334,9 +373,18 @@ module _ (t r : List ℕ) (t-size : length t ≡ 16) (r-size : length r ≡ 32) 
       by Copy e = absurd (h.not_copy (holds_copy e))
       by Full e = absurd (h.not_full (holds_full e))
       by Torn e = e
+      by Spent e = absurd (h.not_spent (holds_spent e))
 
   kinds : Kinds t r
-  kinds = record { free = (holds_free, is_free_lem); copy = (holds_copy, is_copy_lem); full = (holds_full, is_full_lem); torn = (holds_torn, is_torn_entry) }
+  kinds =
+      record {
+        free = (holds_free, is_free_lem);
+        copy = (holds_copy, is_copy_lem);
+        full = (holds_full, is_full_lem);
+        torn = (holds_torn, is_torn_entry);
+        spent = (holds_spent, is_spent_lem);
+        vacant = (none_where, λ h. sym (vacant_by t r (title_no h) (rule_no h)));
+      }
 
 facts : (t r : List ℕ) → HoldsFacts t r (entry_facts t r)
 unfolding entry_facts

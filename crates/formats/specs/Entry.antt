@@ -1,19 +1,22 @@
 -- What the two halves of an entry are together.
 use Rattle.std.specs.Prelude.{ℕ, List, Bool, true, false, ◌&&◌, ◌||◌, cond, ltb, eqb}
-use Rattle.formats.specs.Half.{key_of, id_of, usable_of}
+use Rattle.formats.specs.Half.{key_of, id_of, usable_of, names_spent}
 use Rattle.formats.specs.Title.{cci_of}
 use Rattle.formats.specs.Rule.{trigger_of, rights_of, permits_of}
 use Rattle.formats.specs.declared.facts.Facts.{Facts}
 use Rattle.formats.specs.declared.entry.EntryKind.{EntryKind}
-use Rattle.formats.specs.declared.entry.EntryKind.TheVariants.{Free, Copy, Full, Torn}
+use Rattle.formats.specs.declared.entry.EntryKind.TheVariants.{Free, Copy, Full, Torn, Spent}
 
--- "free, no half usable; copy, only the title half usable; full, both usable with equal IDs; torn, anything else"
-abbrev pub kind_by : Bool → Bool → Bool → EntryKind
-kind_by false false same = Free
-kind_by true false same = Copy
-kind_by true true true = Full
-kind_by true true false = Torn
-kind_by false true same = Torn
+-- "free, no half usable; copy, only the title half usable; full, both usable with equal IDs; torn, anything else", and W7: "The kinds
+-- of entry gain a fifth, spent: no half usable, and a title half with flag 0 and an ID from 1 to 999. Free now means no half usable
+-- and not spent." By which halves are usable, whether their IDs are the same, and whether the title half names a spent title
+abbrev pub kind_by : Bool → Bool → Bool → Bool → EntryKind
+kind_by false false same false = Free
+kind_by false false same true = Spent
+kind_by true false same spent = Copy
+kind_by true true true spent = Full
+kind_by true true false spent = Torn
+kind_by false true same spent = Torn
 
 -- "any usable half with an ID above 999"
 abbrev pub stray_of : List ℕ → Bool
@@ -23,7 +26,15 @@ stray_of h = usable_of h && ltb 999 (id_of h)
 unfoldable pub kind_of : List ℕ → List ℕ → EntryKind
 kind_of t r =
     cond (stray_of t || (stray_of r || (usable_of t && eqb (cci_of t) 1))) Torn
-    (kind_by (usable_of t) (usable_of r) (eqb (id_of t) (id_of r)))
+    (kind_by (usable_of t) (usable_of r) (eqb (id_of t) (id_of r)) (names_spent t))
+
+-- an entry that a title may be put in. W7: "Calls that needed a free entry accept free or spent"
+abbrev pub is_vacant : EntryKind → Bool
+is_vacant Free = true
+is_vacant Copy = false
+is_vacant Full = false
+is_vacant Torn = false
+is_vacant Spent = true
 
 -- "the entry's facts": CCI and title key from its title half, trigger, rights, permits and STI key from its rule half
 unfoldable pub entry_facts : List ℕ → List ℕ → Facts

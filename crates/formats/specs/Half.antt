@@ -30,6 +30,10 @@ usable_id h = cond (usable_of h) (Some (record { 0 = id_of h })) None
 unfoldable pub flagged_with : ℕ → List ℕ → Bool
 flagged_with c h = numbered c && (usable_of h && eqb (id_of h) c)
 
+-- W7: "flag 0 and an ID from 1 to 999", with all of its first 16 bytes there: what the title half of a spent entry has
+unfoldable pub names_spent : List ℕ → Bool
+names_spent h = leb 16 (length h) && (not (flag_of h) && numbered (id_of h))
+
 -- "A written half gets its fields, flag 1, ID c, all reserved bits 0": the first 16 bytes
 unfoldable pub half_bytes : ℕ → ℕ → ℕ → List ℕ
 half_bytes first key id = first ∷ (bytes_of 7 key ++ (128 ∷ 0 ∷ 0 ∷ 0 ∷ 0 ∷ 0 ∷ id / 256 % 4 ∷ id % 256 ∷ []))

@@ -7,14 +7,14 @@ use Rattle.formats.specs.Field.{number, bytes_of}
 use Rattle.formats.specs.Half.{flag_of, wiped}
 use Rattle.formats.specs.Title.{title_half}
 use Rattle.formats.specs.Rule.{rule_half, wiped_rule}
-use Rattle.formats.specs.Entry.{kind_of, entry_facts}
+use Rattle.formats.specs.Entry.{kind_of, is_vacant, entry_facts}
 use Rattle.formats.specs.Head.{LedgerHead, TitlesHead, RulesHead, ledger_passes, titles_pass, rules_pass, fresh_ledger, fresh_titles, fresh_rules}
 use Rattle.formats.specs.Row.{state_of, here_row, plain_row, with_permits}
 use Rattle.formats.specs.declared.head.Pair.{Pair}
 use Rattle.formats.specs.declared.head.Pair.TheVariants.{Audio, Picture}
 use Rattle.formats.specs.declared.facts.Facts.{Facts}
 use Rattle.formats.specs.declared.facts.Fillers.{Fillers}
-use Rattle.formats.specs.declared.entry.EntryKind.TheVariants.{Free, Copy, Full, Torn}
+use Rattle.formats.specs.declared.entry.EntryKind.TheVariants.{Free, Copy, Full, Torn, Spent}
 use Rattle.formats.specs.declared.row.RowState.TheVariants.{Empty, Here, Away, Gone, NoState}
 
 -- FIELDS
@@ -151,10 +151,26 @@ pub record Usable (h : List ℕ) : Type 0 where
   pub flag : 128 ≤ get_or h 8 0
   pub named : content_id h ≡ 0 → ⊥
 
--- "free, no half usable"
-pub record HoldsFree (t r : List ℕ) : Type 0 where
+-- "no half usable"
+pub record NoneUsable (t r : List ℕ) : Type 0 where
   pub title : Usable t → ⊥
   pub rule : Usable r → ⊥
+
+-- "a title half with flag 0 and an ID from 1 to 999"
+pub record NamesSpent (t : List ℕ) : Type 0 where
+  pub flag : get_or t 8 0 < 128
+  pub from : 1 ≤ content_id t
+  pub to : content_id t ≤ 999
+
+-- W7: "spent: no half usable, and a title half with flag 0 and an ID from 1 to 999"
+pub record HoldsSpent (t r : List ℕ) : Type 0 where
+  pub unusable : NoneUsable t r
+  pub names : NamesSpent t
+
+-- W7: "Free now means no half usable and not spent."
+pub record HoldsFree (t r : List ℕ) : Type 0 where
+  pub unusable : NoneUsable t r
+  pub not_spent : HoldsSpent t r → ⊥
 
 -- "copy, only the title half usable", but not with "an ID above 999" or "CCI 1"
 pub record HoldsCopy (t r : List ℕ) : Type 0 where
@@ -176,12 +192,16 @@ pub record HoldsTorn (t r : List ℕ) : Type 0 where
   pub not_free : HoldsFree t r → ⊥
   pub not_copy : HoldsCopy t r → ⊥
   pub not_full : HoldsFull t r → ⊥
+  pub not_spent : HoldsSpent t r → ⊥
 
 pub record Kinds (t r : List ℕ) : Type 0 where
   pub free : (kind_of t r ≡ Free) ↔ HoldsFree t r
   pub copy : (kind_of t r ≡ Copy) ↔ HoldsCopy t r
   pub full : (kind_of t r ≡ Full) ↔ HoldsFull t r
   pub torn : (kind_of t r ≡ Torn) ↔ HoldsTorn t r
+  pub spent : (kind_of t r ≡ Spent) ↔ HoldsSpent t r
+  -- "free or spent": the entries that were free while that was "no half usable"
+  pub vacant : (is_vacant (kind_of t r) ≡ true) ↔ NoneUsable t r
 
 -- "The title's .. keys are those in .. the two halves of that entry": each fact where its half has it
 pub record HoldsFacts (t r : List ℕ) (f : Facts) : Type 0 where

@@ -2,7 +2,7 @@
 // it is.
 ghost use Rattle.std.specs.Prelude.{◌≡◌, ◌+◌, ◌*◌, ◌%◌, leb};
 ghost use Rattle.formats.specs.Part.{put};
-ghost use Rattle.formats.specs.Half.{key_of, flag_of, id_of, usable_of, usable_id, flagged_with, half_bytes, wiped, changed_half};
+ghost use Rattle.formats.specs.Half.{key_of, flag_of, id_of, usable_of, usable_id, flagged_with, names_spent, half_bytes, wiped, changed_half};
 
 use crate::facts::ContentId;
 use crate::{facts, field, table};
@@ -75,6 +75,16 @@ pub fn usable_id(half: &[u8]) -> Option<ContentId>
     let tail = field::read_at(half, 8, 8);
     let id = if tail & FLAG == 0 { 0 } else { tail & ID_BITS };
     if id == 0 { None } else { Some(ContentId(id)) }
+}
+
+// Whether a half has flag 0 and an ID from 1 to 999. Flag and ID as one number, which with the flag set is above any ID.
+pub fn names_spent(half: &[u8]) -> bool
+    ensures { result ≡ names_spent half.now }
+{
+    if half.len() < 16 {
+        return false;
+    }
+    facts::is_numbered(field::read_at(half, 8, 8) & (FLAG | ID_BITS))
 }
 
 // Whether a half has flag 1 and this content ID, from 1 to 999. Flag and ID are compared at once, in the order of their bytes.

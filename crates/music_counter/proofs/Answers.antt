@@ -1,11 +1,12 @@
 -- What a call promises, from the refusal that it found and the effect that it had: one argument for all seven.
 -- Assumes nothing.
-use Prim.Native.Nat.{ℕ}
+use Prim.Native.Nat.{ℕ, ◌+◌, ◌*◌, ◌≤◌}
 use mathlib.Core.Path.{◌≡◌, refl, sym, ap, ◌∙◌}
 use mathlib.Core.List.{List}
 use mathlib.Core.Bool.{Bool, true, false, cond, true≢false}
 use mathlib.Core.Logic.{◌≢◌}
 use mathlib.Core.Option.{some, none}
+use lib.ListN.{length}
 use borrow.Author.Tests.{ne_eqb}
 use Rattle.std.specs.Prelude.{Result}
 use Rattle.std.specs.Result.{IsErrAnd}
@@ -15,6 +16,7 @@ use Rattle.formats.proofs.refusal.Laws.{some_number, handed_on}
 use Rattle.formats.specs.declared.head.Pair.{Pair}
 use Rattle.requests.specs.declared.request.Request.{Request}
 use Rattle.requests.specs.declared.request.Request.TheVariants.{Register, Record, CheckOut, CheckIn, MoveOut, MoveIn, Delete}
+use Rattle.formats.specs.declared.facts.EntryNumber.{EntryNumber}
 use Rattle.formats.specs.declared.facts.Fillers.{Fillers}
 use Rattle.formats.specs.declared.row.RowState.TheVariants.{Away}
 use Rattle.calls.specs.Buffers.{Buffers, kind_at, content_at, is_full}
@@ -68,6 +70,13 @@ places pair (Delete j f) b n =
       rule = slot_where full 32 _ b.rules (λ e. rule_inside b j.0 on);
     }
 
+-- of a full entry that is deleted, its row and its rule half
+pub row_deleted : (j : EntryNumber) (f : Fillers) (b : Buffers) → Inside (Delete j f) b → is_full (kind_at b j.0) ≡ true → 24 * content_at b j.0 + 24 ≤ length b.ledger
+row_deleted j f b i full = rw full at i.row
+
+pub rule_deleted : (j : EntryNumber) (f : Fillers) (b : Buffers) → Inside (Delete j f) b → is_full (kind_at b j.0) ≡ true → 32 * j.0 + 32 ≤ length b.rules
+rule_deleted j f b i full = rw full at i.rule
+
 -- A CALL, refused or done
 
 module _ (pair : Pair) (k : Request) (b : Buffers) {w : ℕ} (e : w ≡ refusal pair k b) where
@@ -76,10 +85,14 @@ module _ (pair : Pair) (k : Request) (b : Buffers) {w : ℕ} (e : w ≡ refusal 
   unfolding perform
   refused other = simp (ne_eqb (refusal pair k b) 0 (λ z. other (e ∙ z)), e)
 
-  -- accepted, its places lie in its tables
-  pub inside : w ≡ 0 → Inside k b
+  -- accepted, its needs are met
+  pub needed_where : w ≡ 0 → Named pair k b
   unfolding perform
-  inside zero = places pair k b (needs_met pair k b (sym e ∙ zero))
+  needed_where zero = needs_met pair k b (sym e ∙ zero)
+
+  -- so its places lie in its tables
+  pub inside : w ≡ 0 → Inside k b
+  inside zero = places pair k b (needed_where zero)
 
   -- done, its effect is there
   pub done : {after : Buffers} → w ≡ 0 → after ≡ effect k b → Answers pair k b 0 after

@@ -1,4 +1,4 @@
-// 3 check-out: a loan copy of a title that is in the ledger is written to a free entry, and takes one of its permits.
+// 3 check-out: a loan copy of a title that is in the ledger is written to a free or spent entry, and takes one of its permits.
 ghost use Rattle.std.specs.Prelude.{◌≡◌, List, [], ℕ};
 ghost use Rattle.formats.specs.Refusal.{answer_number};
 ghost use Rattle.requests.specs.declared.request.Request.TheVariants.{CheckOut};

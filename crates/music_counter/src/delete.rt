@@ -2,11 +2,10 @@
 ghost use Rattle.std.specs.Prelude.{◌≡◌};
 ghost use Rattle.formats.specs.Refusal.{answer_number};
 ghost use Rattle.requests.specs.declared.request.Request.TheVariants.{Delete};
-ghost use Rattle.calls.specs.Buffers.{buffers_of};
+ghost use Rattle.calls.specs.Buffers.{buffers_of, kind_at, is_full};
 ghost use Rattle.calls.specs.Effect.{effect};
 ghost use Rattle.music_counter.specs.Answer.{Answers, Inside};
 
-use formats::entry::EntryKind;
 use formats::facts::{EntryNumber, Fillers};
 use formats::head::Pair;
 use formats::refusal::Refusal;
@@ -14,25 +13,27 @@ use formats::row;
 use tables::card::Card;
 use tables::shop::Shop;
 
+// `full` is whether the entry is full, as the refusals found it. It is not asked again, since the compiler does not always see that the
+// answer is the same.
 fn apply(
     ledger: &mut [u8],
     titles: &mut [u8],
     rules: &mut [u8],
     entry: EntryNumber,
     fillers: Fillers,
+    full: bool,
 )
-    requires { Inside (Delete entry fillers) (buffers_of ledger.old titles.old rules.old) }
+    requires inside { Inside (Delete entry fillers) (buffers_of ledger.old titles.old rules.old) }
+    requires full { full ≡ is_full (kind_at (buffers_of ledger.old titles.old rules.old) entry.0) }
     ensures { buffers_of ledger.new titles.new rules.new
         ≡ effect (Delete entry fillers) (buffers_of ledger.old titles.old rules.old) }
 {
-    let card = Card { titles, rules };
-    let content = card.content(entry);
-    let kind = card.kind(entry);
-    crate::wipe_title(titles, entry, fillers.f1);
-    if kind == EntryKind::Full {
+    if full {
+        let content = Card { titles, rules }.content(entry);
         crate::set_plain(ledger, content, row::GONE);
         crate::wipe_rule(rules, entry, fillers);
     }
+    crate::wipe_title(titles, entry, fillers.f1);
 }
 
 // Done, or refused with 5, 7, 8, 9, 10, 11 or 16 and nothing changed.
@@ -49,7 +50,7 @@ pub fn delete(
         (buffers_of ledger.new titles.new rules.new) }
 {
     let shop = Shop::new(ledger, titles, rules);
-    refusals::delete::refusal(pair, shop, entry, fillers)?;
-    apply(ledger, titles, rules, entry, fillers);
+    let full = refusals::delete::refusal(pair, shop, entry, fillers)?;
+    apply(ledger, titles, rules, entry, fillers, full);
     Ok(())
 }

@@ -1,4 +1,4 @@
-// 6 move in: a title goes from the ledger to a free entry, with one move right less. No copy of it may be out.
+// 6 move in: a title goes from the ledger to a free or spent entry, with one move right less. No copy of it may be out.
 ghost use Rattle.std.specs.Prelude.{◌≡◌};
 ghost use Rattle.formats.specs.Refusal.{answer_number};
 ghost use Rattle.requests.specs.declared.request.Request.TheVariants.{MoveIn};

@@ -1,4 +1,4 @@
-// 2 record: a title goes to a free entry at once, full with the facts; its row, empty until then, is away.
+// 2 record: a title goes to a free or spent entry at once, full with the facts; its row, empty until then, is away.
 ghost use Rattle.formats.specs.Refusal.{answer_number};
 ghost use Rattle.requests.specs.declared.request.Request.TheVariants.{Record};
 ghost use Rattle.calls.specs.Buffers.{buffers_of};

@@ -72,7 +72,7 @@ module _ (pair : Pair) (k : Request) (b : Buffers) {w : ℕ} (e : w ≡ first (a
   past_before zero q = next_after pair k b (state_conditions pair k b) e zero q
 
 -- AT THE EXIT OF A `?`, which hands on the refusal v of a stage
-module _ (pair : Pair) (k : Request) (b : Buffers) (r : Result (Unit {0}) Refusal) (v : Refusal) (h : IsErrAnd r (λ y. y ≡ v)) where
+module _ {A : Type 0} (pair : Pair) (k : Request) (b : Buffers) (r : Result A Refusal) (v : Refusal) (h : IsErrAnd r (λ y. y ≡ v)) where
   pub exit_arguments : number_of v ≡ first (argument_conditions k) → answer_number r ≡ refusal pair k b
   exit_arguments e = handed_on r v h ∙ by_arguments pair k b e (some_number v)
 

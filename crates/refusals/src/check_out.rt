@@ -8,7 +8,6 @@ ghost use Rattle.calls.specs.Conditions.{state_conditions};
 ghost use Rattle.calls.specs.Perform.{refusal};
 ghost use Rattle.tables.specs.Shop.{lent};
 
-use formats::entry::EntryKind;
 use formats::facts::{ContentId, EntryNumber};
 use formats::head::Pair;
 use formats::refusal::Refusal;
@@ -20,7 +19,7 @@ use tables::shop::Shop;
 fn state(shop: Shop, content: ContentId, entry: EntryNumber) -> Result<(), Refusal>
     ensures { (pair : Pair) → answer_number result ≡ first (state_conditions pair (CheckOut content entry) (lent shop.entry)) }
 {
-    if shop.card.kind(entry) != EntryKind::Free {
+    if !shop.card.is_vacant(entry) {
         return Err(Refusal::KindOfEntry);
     }
     let RowState::Here(facts) = ledger::state(shop.ledger, content) else {

@@ -11,7 +11,6 @@ ghost use Rattle.calls.specs.Report.{move_in_report};
 ghost use Rattle.tables.specs.Shop.{lent};
 
 use calls::count;
-use formats::entry::EntryKind;
 use formats::facts::{ContentId, EntryNumber};
 use formats::head::Pair;
 use formats::refusal::Refusal;
@@ -32,7 +31,7 @@ fn state(shop: Shop, content: ContentId, entry: EntryNumber) -> Result<(), Refus
     ensures { (pair : Pair) (hash : ℕ) → answer_number result
         ≡ first (tested_before 14 (state_conditions pair (MoveIn content entry hash) (lent shop.entry))) }
 {
-    if shop.card.kind(entry) != EntryKind::Free {
+    if !shop.card.is_vacant(entry) {
         return Err(Refusal::KindOfEntry);
     }
     let RowState::Here(facts) = ledger::state(shop.ledger, content) else {

@@ -9,7 +9,6 @@ ghost use Rattle.calls.specs.Conditions.{argument_conditions, state_conditions};
 ghost use Rattle.calls.specs.Perform.{refusal};
 ghost use Rattle.tables.specs.Shop.{lent};
 
-use formats::entry::EntryKind;
 use formats::facts;
 use formats::facts::{ContentId, EntryNumber, Facts};
 use formats::head::Pair;
@@ -40,7 +39,7 @@ fn state(shop: Shop, content: ContentId, entry: EntryNumber) -> Result<(), Refus
     ensures { (pair : Pair) (facts : Facts) (hash : ℕ) → answer_number result
         ≡ first (state_conditions pair (Record content entry facts hash) (lent shop.entry)) }
 {
-    if shop.card.kind(entry) != EntryKind::Free {
+    if !shop.card.is_vacant(entry) {
         return Err(Refusal::KindOfEntry);
     }
     let RowState::Empty = ledger::state(shop.ledger, content) else {

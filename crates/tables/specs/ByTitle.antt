@@ -1,11 +1,28 @@
--- What a card has of each title: how many copies, and the first full entry.
-use Rattle.std.specs.Prelude.{ℕ, ◌≡◌, List, length, get_or}
-use Rattle.calls.specs.Buffers.{title_at, rule_at, copies, full_with, first_of}
+-- What a card has of each title: how many copies, and the first full entry; and how many entries are spent.
+use Rattle.std.specs.Prelude.{ℕ, ◌≡◌, List, Bool, true, false, length, get_or}
+use Rattle.formats.specs.Entry.{kind_of}
+use Rattle.formats.specs.declared.entry.EntryKind.{EntryKind}
+use Rattle.formats.specs.declared.entry.EntryKind.TheVariants.{Free, Copy, Full, Torn, Spent}
+use Rattle.calls.specs.Buffers.{title_at, rule_at, copies, full_with, first_of, one, total}
 use Rattle.tables.specs.declared.by_title.OnCard.{OnCard}
 
 -- the first full entry with ID c; 0 where there is none
 unfoldable pub first_full : ℕ → List ℕ → List ℕ → ℕ
 first_full c titles rules = first_of 999 (λ j. full_with c (title_at titles j) (rule_at rules j))
+
+-- W7: "a line `spent` and their number": how many entries of a card are spent
+abbrev pub is_spent : EntryKind → Bool
+is_spent Free = false
+is_spent Copy = false
+is_spent Full = false
+is_spent Torn = false
+is_spent Spent = true
+
+abbrev pub spent_at : List ℕ → List ℕ → ℕ → Bool
+spent_at titles rules j = is_spent (kind_of (title_at titles j) (rule_at rules j))
+
+unfoldable pub spent_entries : List ℕ → List ℕ → ℕ
+spent_entries titles rules = total 999 (λ j. one (spent_at titles rules j))
 
 -- nothing of a title
 abbrev pub nothing : OnCard

@@ -2,7 +2,7 @@
 ghost use Rattle.std.specs.Prelude.{◌≡◌, ◌&&◌};
 ghost use Rattle.formats.specs.Half.{id_of};
 ghost use Rattle.formats.specs.Rule.{trigger_of, rights_of, hash_of};
-ghost use Rattle.formats.specs.Entry.{kind_of, entry_facts};
+ghost use Rattle.formats.specs.Entry.{kind_of, is_vacant, entry_facts};
 ghost use Rattle.calls.specs.Buffers.{title_at, rule_at};
 ghost use Rattle.calls.specs.Conditions.{leaves_key, looks_at_f2, may_not_move};
 
@@ -43,10 +43,18 @@ impl<'a> Card<'a> {
     }
 
     // What an entry is.
+    #[inline]
     pub fn kind(self, entry: EntryNumber) -> EntryKind
         ensures { result ≡ kind_of (title_at self.entry.titles.now entry.0) (rule_at self.entry.rules.now entry.0) }
     {
         self.entry(entry).kind()
+    }
+
+    // Whether a title may be put in an entry: it is free or spent.
+    pub fn is_vacant(self, entry: EntryNumber) -> bool
+        ensures { result ≡ is_vacant (kind_of (title_at self.entry.titles.now entry.0) (rule_at self.entry.rules.now entry.0)) }
+    {
+        self.entry(entry).is_vacant()
     }
 
     // The content ID in an entry's title half.

@@ -21,6 +21,8 @@ use Rattle.calls.proofs.Refusals.{in_front}
 use Rattle.calls.proofs.InBounds.{demand_1_calls}
 use Rattle.calls.proofs.Requests.{demand_1_requests}
 use Rattle.calls.proofs.Done.{work_is_done, register_by_ledger, gone_stays}
+use Rattle.calls.proofs.FourKinds.{as_with_four_kinds}
+use Rattle.calls.proofs.Entries.{entries_tell}
 use Rattle.calls.proofs.Report.{move_in_reports}
 use Rattle.calls.proofs.Preview.{demand_1_preview}
 use Rattle.calls.proofs.Steps.{previews_in_lists}
@@ -85,6 +87,7 @@ demands =
             rows = rows_by_number;
             register_by_ledger = register_by_ledger;
             gone_stays = gone_stays;
+            as_with_four_kinds = as_with_four_kinds;
             move_in_reports = move_in_reports;
             of_other_pair = of_other_pair;
             picture_by_f1 = picture_by_f1;
@@ -109,5 +112,13 @@ demands =
             decimal_form = decimal_form;
             sheet_shows = sheet_shows;
           };
-      third = record { history = history; formatted = formatted_history; served = served_history; previews = previews_in_lists; sheet_adds_up = sheet_adds_up };
+      third =
+          record {
+            history = history;
+            formatted = formatted_history;
+            served = served_history;
+            previews = previews_in_lists;
+            sheet_adds_up = sheet_adds_up;
+            entries_tell = entries_tell;
+          };
     }

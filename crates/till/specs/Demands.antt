@@ -17,7 +17,9 @@ use Rattle.calls.specs.Pairs.{OtherPair, PictureByF1}
 use Rattle.calls.specs.Fresh.{RowsByNumber, FreshIsReady}
 use Rattle.calls.specs.Examples.{TenExamples, OneGeneration}
 use Rattle.calls.specs.SampleRun.{SampleRun, EveryCallDone}
+use Rattle.calls.specs.FourKinds.{AsWithFourKinds}
 use Rattle.calls.specs.History.{History}
+use Rattle.calls.specs.Entries.{EntriesTell}
 use Rattle.calls.specs.Preview.{Demand1Preview}
 use Rattle.calls.specs.Steps.{PreviewsInLists}
 use Rattle.tables.specs.Demand1.{Demand1Tables}
@@ -50,6 +52,8 @@ pub record Demand1 : Type 0 where
   pub rows : RowsByNumber
   pub register_by_ledger : RegisterByLedger
   pub gone_stays : GoneStays
+  -- no answer and no byte is another than with four kinds of entry
+  pub as_with_four_kinds : AsWithFourKinds
   -- what a move in reports beside its answer
   pub move_in_reports : MoveInReports
   -- tables of the other pair are refused, and a picture call looks at f1 only
@@ -78,18 +82,20 @@ pub record Demand2 : Type 0 where
   pub one_generation : OneGeneration
   pub sample_run : SampleRun
   pub sample_stream : SampleStream
-  -- the closing sheet: its numbers, its lines and its sums
+  -- the closing sheet: its numbers, its lines, its sums and its spent entries
   pub decimal_form : DecimalForm
   pub sheet_shows : SheetShows
 
 -- 3: one claim about every list of calls from a fresh ledger and card; of what formatting leaves; of every stream that is served; with
--- previews between the calls, which are none, and what is committed as it was previewed; and that by it the numbers on the sheet add up
+-- previews between the calls, which are none, and what is committed as it was previewed; that by it the numbers on the sheet add up;
+-- and which entry once had which loan
 pub record Demand3 : Type 0 where
   pub history : History
   pub formatted : FormattedHistory
   pub served : ServedHistory
   pub previews : PreviewsInLists
   pub sheet_adds_up : SheetAddsUp
+  pub entries_tell : EntriesTell
 
 pub record Demands : Type 0 where
   pub first : Demand1

@@ -33,7 +33,7 @@ use Rattle.calls.proofs.InBounds.{in_bounds}
 use Rattle.calls.proofs.Fresh.{fresh_empty, fresh_free, fresh_bytes}
 use Rattle.calls.proofs.Views.{place_by, copy_is, view, full_entry, copies_seen, fulls_seen}
 use Rattle.calls.proofs.History.Totals.{total_none}
-use Rattle.calls.proofs.History.Titles.{Place, vacant, copy, copy_in, full_in, TitleInvariant, Accounts, NotGranted, TitleStep, step_register, step_record, step_check_out, step_check_in, step_move_out, step_move_in, step_delete_copy, step_delete_holder}
+use Rattle.calls.proofs.History.Titles.{Place, no_title, copy, copy_in, full_in, TitleInvariant, Accounts, NotGranted, TitleStep, step_register, step_record, step_check_out, step_check_in, step_move_out, step_move_in, step_delete_copy, step_delete_holder}
 use Rattle.calls.proofs.History.Step.{At, Invariant, kept, copies_in, fulls_in, copy_at_counts, holder_found}
 use Rattle.calls.proofs.History.Calls.{change}
 
@@ -61,7 +61,7 @@ module _ (pair : Pair) (rows application card_application : ℕ) (low : 1 ≤ ro
       by false e = no_row
 
   -- every place has nothing
-  nothing_there : (j : ℕ) → Within 999 j → (view b₀).places j ≡ vacant
+  nothing_there : (j : ℕ) → Within 999 j → (view b₀).places j ≡ no_title
   nothing_there j l = ap (λ (k : EntryKind). place_by k (content_at b₀ j) (facts_at b₀ j)) (fresh_free pair rows application card_application j l)
 
   not_granted : (c : ℕ) → NotGranted (actions c []) (copies_in 999 c (view b₀)) (fulls_in 999 c (view b₀))

@@ -27,7 +27,7 @@ use Rattle.calls.specs.History.{Log, a_copy, the_holder, puts, last_at, Action, 
 use Rattle.calls.proofs.Counts.{copy_cci_lem}
 use Rattle.calls.proofs.Named.{deletes_copy, deletes_holder, Named, unnamed}
 use Rattle.calls.proofs.Passed.{none_counts, OnCard, on_card}
-use Rattle.calls.proofs.Views.{place_by, place_of, place_is, copy_is, view, row_else, place_else, copies_seen}
+use Rattle.calls.proofs.Views.{place_by, place_of, place_is, nothing_at, copy_is, view, row_else, place_else, copies_seen}
 use Rattle.calls.proofs.Untouched.{untouched, rule_with_title}
 use Rattle.calls.proofs.Done.{work_is_done}
 use Rattle.calls.proofs.History.Titles.{Place, copy, eqb_self, TitleStep, step_register, step_record, step_check_out, step_check_in, step_move_out, step_move_in, step_delete_copy, step_delete_holder, step_at}
@@ -112,25 +112,25 @@ module _ (pair : Pair) (log : Log) (b : Buffers) (inv : Invariant 999 log (view 
       let k = Record c j f h in
       let l = left k n in
       wrote k (granted f) (on_card pair k b n) l.row.reads (place_is (after k) j.0 l.entry.full ∙ rw (l.entry.id, l.entry.facts))
-      (λ d ne. other_than ne) refl refl (step_at step_record n.empty (place_is b j.0 n.free) refl refl)
+      (λ d ne. other_than ne) refl refl (step_at step_record n.empty (nothing_at b j.0 n.vacant) refl refl)
       (simp (eqb_self j.0)) (λ i ne. simp (ne_eqb i j.0 ne))
   change (CheckOut c j) n =
       let k = CheckOut c j in
       let l = left k n in
       wrote k checked_out (on_card pair k b n) (l.row.here ∙ ap Here (same_permits l.row.facts)) (copy_is (after k) j.0 c.0 l.copy l.id ∙ ap (copy c.0) (copy_cci_lem _ _ l.cci_of_2 l.cci_else))
-      (λ d ne. other_than ne) refl refl (step_at (step_check_out n.permit_left) n.here (place_is b j.0 n.free) refl refl)
+      (λ d ne. other_than ne) refl refl (step_at (step_check_out n.permit_left) n.here (nothing_at b j.0 n.vacant) refl refl)
       (simp (eqb_self j.0)) (λ i ne. simp (ne_eqb i j.0 ne))
   change (CheckIn j f1) n =
       let k = CheckIn j f1 in
       let l = left k n in
-      wrote k checked_in (on_card pair k b n) (l.row.here ∙ ap Here (same_permits l.row.facts)) (place_is (after k) j.0 l.free)
+      wrote k checked_in (on_card pair k b n) (l.row.here ∙ ap Here (same_permits l.row.facts)) (place_is (after k) j.0 l.entry.spent)
       (λ d ne. other_than ne) refl (rw (placed_copy j.0 n.entry n.copy)) (step_at step_check_in n.here (place_is b j.0 n.copy) refl refl)
       tt (λ i ne. refl)
   change (MoveOut j h f) n =
       let k = MoveOut j h f in
       let l = left k n in
       let here = place_is b j.0 n.full in
-      wrote k moved (on_card pair k b n) (l.row.reads ∙ ap Here (same_moved l.facts)) (place_is (after k) j.0 l.free)
+      wrote k moved (on_card pair k b n) (l.row.reads ∙ ap Here (same_moved l.facts)) (place_is (after k) j.0 l.entry.spent)
       (λ d ne. other_than ne) refl (rw (placed_full j.0 n.entry n.full))
       (step_at (step_move_out (j.0, n.entry, here) n.may_move.right_left) n.away here refl refl)
       tt (λ i ne. refl)
@@ -139,7 +139,7 @@ module _ (pair : Pair) (log : Log) (b : Buffers) (inv : Invariant 999 log (view 
       let l = left k n in
       wrote k moved (on_card pair k b n) l.row.reads (place_is (after k) j.0 l.entry.full ∙ rw (l.entry.id, same_moved l.facts))
       (λ d ne. other_than ne) refl refl
-      (step_at (step_move_in (sym (copies_seen c.0 b) ∙ none_counts c.0 b n.no_copy) n.may_move.right_left) n.here (place_is b j.0 n.free) refl refl)
+      (step_at (step_move_in (sym (copies_seen c.0 b) ∙ none_counts c.0 b n.no_copy) n.may_move.right_left) n.here (nothing_at b j.0 n.vacant) refl refl)
       (simp (eqb_self j.0)) (λ i ne. simp (ne_eqb i j.0 ne))
   change (Delete j f) n =
       let k = Delete j f in
@@ -148,10 +148,10 @@ module _ (pair : Pair) (log : Log) (b : Buffers) (inv : Invariant 999 log (view 
       elim n.deletable [
         | deletes_copy kind ↦
             let it = l.of_copy kind in
-            wrote k copy_deleted (on_card pair k b n) (rw it.ledger) (place_is (after k) j.0 it.free) other refl (rw (placed_copy j.0 n.entry kind))
+            wrote k copy_deleted (on_card pair k b n) (rw it.ledger) (place_is (after k) j.0 it.entry.spent) other refl (rw (placed_copy j.0 n.entry kind))
             (step_at step_delete_copy refl (place_is b j.0 kind) refl refl) tt (λ i ne. refl)
         | deletes_holder full away key ↦
             let it = l.of_full full in
-            wrote k holder_deleted (on_card pair k b n) it.row.reads (place_is (after k) j.0 it.free) other refl (rw (placed_full j.0 n.entry full))
+            wrote k holder_deleted (on_card pair k b n) it.row.reads (place_is (after k) j.0 it.entry.spent) other refl (rw (placed_full j.0 n.entry full))
             (step_at step_delete_holder away (place_is b j.0 full) refl refl) tt (λ i ne. refl)
       ]

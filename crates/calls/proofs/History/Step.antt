@@ -13,7 +13,7 @@ use Rattle.formats.specs.declared.row.RowState.{RowState}
 use Rattle.calls.specs.Buffers.{one, total, Within}
 use Rattle.calls.specs.History.{Answered, Log, LastPut, a_copy, the_holder, puts, last_at, Action, event, actions}
 use Rattle.calls.proofs.History.Totals.{total_same, total_put, total_at, total_some}
-use Rattle.calls.proofs.History.Titles.{Place, vacant, copy, full, copy_in, full_in, eqb_self, TitleInvariant, TitleStep, own, other, unaffected}
+use Rattle.calls.proofs.History.Titles.{Place, no_title, copy, full, copy_in, full_in, eqb_self, TitleInvariant, TitleStep, own, other, unaffected}
 
 -- what the titles' rows and the places are
 pub record State : Type 0 where
@@ -35,13 +35,13 @@ actions_else k log c d a e ne = rw (e, ne_eqb c d ne)
 
 -- what a place has is what the log says was put there last
 abbrev pub Agree : Place → LastPut → Type 0
-Agree vacant o = Unit {0}
+Agree no_title o = Unit {0}
 Agree (copy c x) o = o ≡ a_copy c
 Agree (full c f) o = o ≡ the_holder c
 
 -- a full place counts
 full_of_lem : (c : ℕ) (q : Place) → full_in c q ≢ 0 → (h : Facts) × (q ≡ full c h)
-full_of_lem c vacant d = absurd (d refl)
+full_of_lem c no_title d = absurd (d refl)
 full_of_lem c (copy e x) d = absurd (d refl)
 full_of_lem c (full e h) d =
     elim (ℕ_discrete e c) [ yes i ↦ (h, ap (λ (x : ℕ). full x h) i) | no ne ↦ absurd (d (simp (ne_eqb e c ne))) ]

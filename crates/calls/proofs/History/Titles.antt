@@ -22,24 +22,24 @@ use Rattle.calls.proofs.Counts.{less_limited, less_unlimited, more_limited, more
 
 -- a place has nothing, a copy of a title with its CCI, or a title in full with its facts
 pub data Place : Type 0 where
-  vacant : Place
+  no_title : Place
   copy : ℕ → ℕ → Place
   full : ℕ → Facts → Place
 
 -- how many copies of c a place has; whether it has c in full
 abbrev pub copy_in : ℕ → Place → ℕ
-copy_in c vacant = 0
+copy_in c no_title = 0
 copy_in c (copy d x) = one (eqb d c)
 copy_in c (full d f) = 0
 
 abbrev pub full_in : ℕ → Place → ℕ
-full_in c vacant = 0
+full_in c no_title = 0
 full_in c (copy d x) = 0
 full_in c (full d f) = one (eqb d c)
 
 -- whether a place has anything of c
 abbrev pub of_title : ℕ → Place → Bool
-of_title c vacant = false
+of_title c no_title = false
 of_title c (copy d x) = eqb d c
 of_title c (full d f) = eqb d c
 
@@ -115,14 +115,14 @@ TitleInvariant c acts n m P NoState = NotGranted acts n m
 -- a done call, as the title d that it belongs to sees it: the action, the row and the place before it, and both after it
 pub data TitleStep (d n : ℕ) (P : Place → Type 0) : Action → RowState → Place → RowState → Place → Type 0 where
   step_register : {f : Facts} {q : Place} → TitleStep d n P (granted f) Empty q (Here f) q
-  step_record : {f : Facts} → TitleStep d n P (granted f) Empty vacant Away (full d f)
+  step_record : {f : Facts} → TitleStep d n P (granted f) Empty no_title Away (full d f)
   step_check_out : {h : Facts} → h.permits ≢ 0
-      → TitleStep d n P checked_out (Here h) vacant (Here (permitting h (one_less h.permits))) (copy d (copy_cci h.cci))
-  step_check_in : {h : Facts} {x : ℕ} → TitleStep d n P checked_in (Here h) (copy d x) (Here (permitting h (one_more h.permits))) vacant
-  step_move_out : {h : Facts} → P (full d h) → h.rights ≢ 0 → TitleStep d n P moved Away (full d h) (Here (after_move h)) vacant
-  step_move_in : {h : Facts} → n ≡ 0 → h.rights ≢ 0 → TitleStep d n P moved (Here h) vacant Away (full d (after_move h))
-  step_delete_copy : {r : RowState} {x : ℕ} → TitleStep d n P copy_deleted r (copy d x) r vacant
-  step_delete_holder : {h : Facts} → TitleStep d n P holder_deleted Away (full d h) Gone vacant
+      → TitleStep d n P checked_out (Here h) no_title (Here (permitting h (one_less h.permits))) (copy d (copy_cci h.cci))
+  step_check_in : {h : Facts} {x : ℕ} → TitleStep d n P checked_in (Here h) (copy d x) (Here (permitting h (one_more h.permits))) no_title
+  step_move_out : {h : Facts} → P (full d h) → h.rights ≢ 0 → TitleStep d n P moved Away (full d h) (Here (after_move h)) no_title
+  step_move_in : {h : Facts} → n ≡ 0 → h.rights ≢ 0 → TitleStep d n P moved (Here h) no_title Away (full d (after_move h))
+  step_delete_copy : {r : RowState} {x : ℕ} → TitleStep d n P copy_deleted r (copy d x) r no_title
+  step_delete_holder : {h : Facts} → TitleStep d n P holder_deleted Away (full d h) Gone no_title
 
 -- the accounts after each action
 module _ (acts : List Action) (h : Facts) (n n' : ℕ) where
@@ -236,7 +236,7 @@ module _ (d n m n' m' : ℕ) (P P' : Place → Type 0) (acts : List Action) wher
       }
   own (step_check_in {h = h}) en em x g k g' s =
       let c = simp (eqb_self d) at en in
-      record { no_full = omega arith; accounts = accounts_checked_in acts h n n' s.accounts (omega arith); cci_of_copies = copies_after h vacant (λ x e. cc) g' s.cci_of_copies }
+      record { no_full = omega arith; accounts = accounts_checked_in acts h n n' s.accounts (omega arith); cci_of_copies = copies_after h no_title (λ x e. cc) g' s.cci_of_copies }
   own (step_move_out {h = h} y b) en em x g k g' s =
       let c = simp (eqb_self d) at em in
       record {
@@ -254,7 +254,7 @@ module _ (d n m n' m' : ℕ) (P P' : Place → Type 0) (acts : List Action) wher
   own (step_delete_copy {r = Empty}) en em x g k g' s = let c = simp (eqb_self d) at en in absurd (omega arith)
   own (step_delete_copy {r = Here h}) en em x g k g' s =
       let c = simp (eqb_self d) at en in
-      record { no_full = omega arith; accounts = accounts_copy_deleted acts h n n' s.accounts (omega arith); cci_of_copies = copies_after h vacant (λ x e. cc) g' s.cci_of_copies }
+      record { no_full = omega arith; accounts = accounts_copy_deleted acts h n n' s.accounts (omega arith); cci_of_copies = copies_after h no_title (λ x e. cc) g' s.cci_of_copies }
   own (step_delete_copy {r = Away}) en em x g k g' s = let c = simp (eqb_self d) at en in absurd (omega arith)
   own (step_delete_copy {r = Gone}) en em x g k g' s = let c = simp (eqb_self d) at en in absurd (omega arith)
   own (step_delete_copy {r = NoState}) en em x g k g' s = let c = simp (eqb_self d) at en in absurd (omega arith)
@@ -301,11 +301,11 @@ module _ (c d n : ℕ) (P : Place → Type 0) (ne : c ≢ d) where
   unaffected step_register = record { copies = refl; fulls = refl; before = λ p has e. e }
   unaffected (step_record {f = f}) = record { copies = refl; fulls = simp not_c; before = nothing_of_c (full d f) not_c }
   unaffected (step_check_out {h = h} b) = record { copies = simp not_c; fulls = refl; before = nothing_of_c (copy d (copy_cci h.cci)) not_c }
-  unaffected step_check_in = record { copies = simp not_c; fulls = refl; before = nothing_of_c vacant refl }
-  unaffected (step_move_out x b) = record { copies = refl; fulls = simp not_c; before = nothing_of_c vacant refl }
+  unaffected step_check_in = record { copies = simp not_c; fulls = refl; before = nothing_of_c no_title refl }
+  unaffected (step_move_out x b) = record { copies = refl; fulls = simp not_c; before = nothing_of_c no_title refl }
   unaffected (step_move_in {h = h} z b) = record { copies = refl; fulls = simp not_c; before = nothing_of_c (full d (after_move h)) not_c }
-  unaffected step_delete_copy = record { copies = simp not_c; fulls = refl; before = nothing_of_c vacant refl }
-  unaffected step_delete_holder = record { copies = refl; fulls = simp not_c; before = nothing_of_c vacant refl }
+  unaffected step_delete_copy = record { copies = simp not_c; fulls = refl; before = nothing_of_c no_title refl }
+  unaffected step_delete_holder = record { copies = refl; fulls = simp not_c; before = nothing_of_c no_title refl }
 
 -- a step, at what is equal to its ends
 pub step_at : {d n : ℕ} {P : Place → Type 0} {a : Action} {r r' x x' : RowState} {q q' y y' : Place} → TitleStep d n P a r q r' q'

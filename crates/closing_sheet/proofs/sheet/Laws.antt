@@ -2,7 +2,7 @@
 -- Assumes nothing.
 use Prim.Native.Nat.{ℕ, zero, suc, ◌+◌, ◌-◌, ◌*◌, ◌^◌, ◌≤◌, ◌<◌}
 use mathlib.Core.Path.{◌≡◌, refl, sym, ap, ap₂, subst, ◌∙◌}
-use mathlib.Core.List.{List, [], ◌++◌}
+use mathlib.Core.List.{List, [], ◌++◌, append_assoc}
 use mathlib.Core.Bool.{Bool, true, false, cond}
 use Rattle.std.specs.Prelude.{None, Some}
 use native.Mathlib.Omega.{arith}
@@ -23,10 +23,12 @@ use Rattle.formats.specs.declared.row.RowState.{RowState}
 use Rattle.formats.specs.declared.row.RowState.TheVariants.{Empty, Here, Away, Gone, NoState}
 use Rattle.calls.specs.Buffers.{Buffers, state_at, is_empty, total}
 use Rattle.calls.specs.Perform.{AreBytes}
+use Rattle.tables.specs.ByTitle.{spent_entries}
+use Rattle.tables.proofs.PerTitle.{spent_most}
 use Rattle.text.specs.Text.{decimal, field, line}
 use Rattle.text.proofs.Decimal.{field_length, field_listed, length_most}
 use Rattle.closing_sheet.specs.declared.line.Line.{Line}
-use Rattle.closing_sheet.specs.Sheet.{line_of, line_text, row_text, rows_text, other_than_15, permits_added, copies_added, permits_total, copies_total, total_word, total_line, sheet_text, printed}
+use Rattle.closing_sheet.specs.Sheet.{line_of, line_text, row_text, rows_text, other_than_15, permits_added, copies_added, permits_total, copies_total, total_word, total_line, spent_word, spent_line, last_lines, sheet_text, printed}
 use Rattle.closing_sheet.proofs.line.Laws.{permits_most, line_copies, line_listed, line_most}
 
 -- ONE ROW
@@ -119,23 +121,31 @@ module _ (b : Buffers) where
   totals_most zero = (omega arith, omega arith)
   totals_most (suc n) = let (p, c) = totals_most n in let (q, d) = added_most (suc n) in (omega arith, omega arith)
 
--- THE LAST LINE
+-- THE LAST TWO LINES
 
-total_fields : (permits copies : ℕ) → total_line permits copies ≡ total_word ++ (field permits 32 ++ field copies 10)
-unfolding total_line line
-total_fields permits copies = refl
+module _ (permits copies spent : ℕ) where
+  -- word by word
+  abbrev pub words : List ℕ
+  words = total_word ++ (field permits 32 ++ (field copies 10 ++ (spent_word ++ field spent 10)))
 
--- so it is stored word by word
-pub total_start : (permits copies : ℕ) (out : List ℕ) (at : ℕ) → Storing (total_line permits copies) out at out at (total_word ++ (field permits 32 ++ field copies 10))
-total_start permits copies out at =
-    subst (Storing (total_line permits copies) out at out at) (total_fields permits copies) (start (total_line permits copies) out at)
+  last_words : last_lines permits copies spent ≡ words
+  unfolding last_lines total_line spent_line line
+  last_words = ap (λ (l : List ℕ). total_word ++ l) (append_assoc (field permits 32) (field copies 10) (spent_word ++ field spent 10))
 
-pub total_length : (permits copies : ℕ) → length (total_line permits copies) ≡ length (decimal permits) + length (decimal copies) + 8
-total_length permits copies = rw (total_fields permits copies) (simp (length-append, field_length) (omega arith))
+  -- so they are stored
+  pub last_start : (out : List ℕ) (at : ℕ) → Storing (last_lines permits copies spent) out at out at words
+  last_start out at = subst (Storing (last_lines permits copies spent) out at out at) last_words (start (last_lines permits copies spent) out at)
 
-pub sheet_length : (b : Buffers) → length (sheet_text b) ≡ length (rows_text (rows_of b.ledger) b) + length (total_line (permits_total b) (copies_total b))
+  pub last_length : length (last_lines permits copies spent) ≡ length (decimal permits) + length (decimal copies) + length (decimal spent) + 15
+  last_length = rw last_words (simp (length-append, field_length) (omega arith))
+
+-- those of a sheet
+abbrev pub last_of : Buffers → List ℕ
+last_of b = last_lines (permits_total b) (copies_total b) (spent_entries b.titles b.rules)
+
+pub sheet_length : (b : Buffers) → length (sheet_text b) ≡ length (rows_text (rows_of b.ledger) b) + length (last_of b)
 unfolding sheet_text
-sheet_length b = length-append (rows_text (rows_of b.ledger) b) (total_line (permits_total b) (copies_total b))
+sheet_length b = length-append (rows_text (rows_of b.ledger) b) (last_of b)
 
 -- THE LOOPS
 
@@ -189,6 +199,10 @@ module _ {b : Buffers} {n permits copies : ℕ} (s : Added b n permits copies) w
   unfolding permits_total copies_total
   added_all e = (s.permits_are ∙ ap (λ (m : ℕ). total m (permits_added b)) e, s.copies_are ∙ ap (λ (m : ℕ). total m (copies_added b)) e)
 
+same_last : (b : Buffers) {permits copies spent : ℕ} → permits ≡ permits_total b → copies ≡ copies_total b → spent ≡ spent_entries b.titles b.rules
+    → last_lines permits copies spent ≡ last_of b
+same_last b {spent = spent} p n z = ap₂ (λ (x y : ℕ). last_lines x y spent) p n ∙ ap (last_lines (permits_total b) (copies_total b)) z
+
 -- how long their lines are
 pub record Measured (b : Buffers) (n len : ℕ) : Type 0 where
   pub is : len ≡ length (rows_text n b)
@@ -207,11 +221,12 @@ module _ {b : Buffers} {n len : ℕ} (m : Measured b n len) where
   measured_line e k short =
       let (text, p, c) = line_adds b (n + 1) e in record { is = omega (arith, m.is, k, ap length text, rows_length b n); short = omega (arith, m.short) }
 
-  -- all of them, with the last line
-  pub measured_all : {permits copies k : ℕ} → Added b n permits copies → n ≡ rows_of b.ledger → k ≡ length (total_line permits copies) → len + k ≡ length (sheet_text b)
-  measured_all s e last =
+  -- all of them, with the last two
+  pub measured_all : {permits copies spent k : ℕ} → Added b n permits copies → spent ≡ spent_entries b.titles b.rules → n ≡ rows_of b.ledger
+      → k ≡ length (last_lines permits copies spent) → len + k ≡ length (sheet_text b)
+  measured_all s z e last =
       let (p, n) = added_all s e in
-      omega (arith, m.is, last, ap (λ (i : ℕ). length (rows_text i b)) e, ap₂ (λ (x y : ℕ). length (total_line x y)) p n, sheet_length b)
+      omega (arith, m.is, last, ap (λ (i : ℕ). length (rows_text i b)) e, ap length (same_last b p n z), sheet_length b)
 
 -- the lines of the rows 1 to n stand at the front of the text, which has room for those of all
 pub record Written (b : Buffers) (rows : ℕ) (text₀ text : List ℕ) (at n : ℕ) : Type 0 where
@@ -269,30 +284,30 @@ module _ {b : Buffers} {rows : ℕ} {text₀ text : List ℕ} {at n : ℕ} (s : 
   pub written_all : n ≡ rows_of b.ledger → (at ≡ length (rows_text (rows_of b.ledger) b)) × (text ≡ put text₀ 0 (rows_text (rows_of b.ledger) b))
   written_all e = (s.place ∙ ap (λ (m : ℕ). length (rows_text m b)) e, s.is ∙ ap (λ (m : ℕ). put text₀ 0 (rows_text m b)) e)
 
--- THE SHEET: its rows and its last line, in a text that has room for it
+-- THE SHEET: its rows and its last two lines, in a text that has room for it
 module _ (b : Buffers) (text : List ℕ) (room : length (sheet_text b) ≤ length text) where
   pub rows_fit : length (rows_text (rows_of b.ledger) b) ≤ length text
   rows_fit = omega (arith, room, sheet_length b)
 
-  module _ {permits copies : ℕ} (p : permits ≡ permits_total b) (n : copies ≡ copies_total b) {at : ℕ} {m : List ℕ}
-      (rows : (at ≡ length (rows_text (rows_of b.ledger) b)) × (m ≡ put text 0 (rows_text (rows_of b.ledger) b))) where
-    last_line : total_line permits copies ≡ total_line (permits_total b) (copies_total b)
-    last_line = ap₂ total_line p n
+  module _ {permits copies spent : ℕ} (p : permits ≡ permits_total b) (n : copies ≡ copies_total b) (z : spent ≡ spent_entries b.titles b.rules)
+      {at : ℕ} {m : List ℕ} (rows : (at ≡ length (rows_text (rows_of b.ledger) b)) × (m ≡ put text 0 (rows_text (rows_of b.ledger) b))) where
+    its_last : last_lines permits copies spent ≡ last_of b
+    its_last = same_last b p n z
 
-    pub total_fits : at + length (total_line permits copies) ≤ length m
-    total_fits =
-        omega (arith, room, sheet_length b, rows.0, ap length last_line, ap length rows.1, put_length text (rows_text (rows_of b.ledger) b) 0 (omega (arith, rows_fit)))
+    pub last_fits : at + length (last_lines permits copies spent) ≤ length m
+    last_fits =
+        omega (arith, room, sheet_length b, rows.0, ap length its_last, ap length rows.1, put_length text (rows_text (rows_of b.ledger) b) 0 (omega (arith, rows_fit)))
 
-    pub sheet_put : {r : ℕ} {n : List ℕ} → (r ≡ at + length (total_line permits copies)) × (n ≡ put m at (total_line permits copies))
+    pub sheet_put : {r : ℕ} {n : List ℕ} → (r ≡ at + length (last_lines permits copies spent)) × (n ≡ put m at (last_lines permits copies spent))
         → (r ≡ length (sheet_text b)) × (n ≡ put text 0 (sheet_text b))
     unfolding sheet_text
     sheet_put {r} {n} e =
         let front = rows_text (rows_of b.ledger) b in
-        let more = total_line (permits_total b) (copies_total b) in
+        let more = last_of b in
         let all = sheet_length b in (
-          omega (arith, e.0, rows.0, all, ap length last_line),
+          omega (arith, e.0, rows.0, all, ap length its_last),
           e.1
-              ∙ ap (put m at) last_line
+              ∙ ap (put m at) its_last
               ∙ ap₂ (λ (k : ℕ) (l : List ℕ). put l k more) (rows.0 ∙ sym (zero-add (length front))) rows.1
               ∙ put_next text front more 0 (omega (arith, room, all)),
         )
@@ -315,10 +330,17 @@ pub sheet_listed : (b : Buffers) → Listed (sheet_text b)
 unfolding sheet_text
 sheet_listed b =
     then (rows_listed b (rows_of b.ledger))
-    (rw (total_fields (permits_total b) (copies_total b)) (then word (then (field_listed (permits_total b) 32 (omega arith)) (field_listed (copies_total b) 10 (omega arith)))))
+    (rw (last_words (permits_total b) (copies_total b) spent)
+    (then word (then (field_listed (permits_total b) 32 (omega arith)) (then (field_listed (copies_total b) 10 (omega arith)) (then word_spent (field_listed spent 10 (omega arith)))))))
   where
+    spent : ℕ
+    spent = spent_entries b.titles b.rules
+
     word : Listed total_word
     word = more 116 (omega arith) (more 111 (omega arith) (more 116 (omega arith) (more 97 (omega arith) (more 108 (omega arith) (more 32 (omega arith) none)))))
+
+    word_spent : Listed spent_word
+    word_spent = more 115 (omega arith) (more 112 (omega arith) (more 101 (omega arith) (more 110 (omega arith) (more 116 (omega arith) (more 32 (omega arith) none)))))
 
 -- HOW LONG IT IS
 module _ (b : Buffers) (bytes : AreBytes b) where
@@ -342,4 +364,6 @@ module _ (b : Buffers) (bytes : AreBytes b) where
       let (p, c) = totals_most b rows in
       let permits = length_most 4 (permits_total b) (omega arith) in
       let copies = length_most 5 (copies_total b) (omega arith) in
-      omega (arith, sheet_length b, total_length (permits_total b) (copies_total b), rows_long rows high)
+      let n = spent_entries b.titles b.rules in
+      let spent = length_most 2 n (omega (arith, spent_most b.titles b.rules)) in
+      omega (arith, sheet_length b, last_length (permits_total b) (copies_total b) n, rows_long rows high)

@@ -3,8 +3,9 @@
 use Prim.Native.Nat.{ℕ, ◌+◌, ◌-◌, ◌*◌, ◌/◌, ◌%◌, ◌^◌, ◌≤◌, ◌<◌}
 use mathlib.Core.Path.{◌≡◌, refl, sym, ap, ◌∙◌}
 use mathlib.Core.List.{List, [], ◌∷◌, ◌++◌}
-use mathlib.Core.Bool.{Bool, true, false, not, ◌&&◌}
+use mathlib.Core.Bool.{Bool, true, false, not, ◌&&◌, cond}
 use Rattle.std.specs.Prelude.{Option, Some, None}
+use Rattle.std.specs.Option.{is_some}
 use Rattle.std.proofs.lemmas.Option.{none-some, cond_some}
 use Rattle.formats.specs.declared.facts.ContentId.{ContentId}
 use native.Mathlib.Omega.{arith}
@@ -14,16 +15,17 @@ use lib.Bits.{bit_and, and_zero_r, and_block, and_high, and_mask}
 use lib.Dec.{leb, ltb, eqb}
 use lib.ListN.{length, drop, get_or, replicate, length-append}
 use lib.Seq.{get_or-drop}
-use borrow.Author.Tests.{le-leb, lt-leb, lt-ltb, le-ltb, eq-eqb, ne_eqb, eqb-false, not-true}
+use borrow.Author.Tests.{le-leb, lt-leb, leb-true, lt-ltb, le-ltb, eq-eqb, ne_eqb, eqb-false, not-true}
 use Rattle.formats.specs.Part.{part, put}
 use Rattle.formats.specs.Field.{number, bytes_of}
 use Rattle.formats.specs.Facts.{numbered}
-use Rattle.formats.specs.Half.{key_of, flag_of, id_of, usable_of, usable_id, flagged_with, half_bytes, wiped, changed_half}
+use Rattle.formats.specs.Half.{key_of, flag_of, id_of, usable_of, usable_id, flagged_with, names_spent, half_bytes, wiped, changed_half}
 use Rattle.formats.proofs.Part.{part_length, put_length, get_or_put_before, part_put_before}
 use Rattle.formats.specs.Bytes.{Bytes}
 use Rattle.formats.proofs.Bytes.{Listed, none, more, then, zeros, field, bytes_part, bytes_put}
 use Rattle.formats.proofs.Cells.{part_cells}
-use Rattle.formats.proofs.Tests.{split, and_false}
+use Rattle.formats.proofs.Tests.{split, both, and_false}
+use Rattle.formats.proofs.facts.Laws.{numbered_range, range_numbered}
 use Rattle.formats.proofs.Zeros.{zero_at}
 use Rattle.formats.proofs.field.Laws.{length_bytes_of, number_bytes_of, number_first, number_last, number_below, bytes_number, little}
 
@@ -76,6 +78,11 @@ usable_id_lem h usable =
     let some = eqb-false (id_of h) 0 (not-true (eqb (id_of h) 0) (split (flag_of h) (not (eqb (id_of h) 0)) marked).1) in
     elim (dec_le 1 (id_of h)) [ yes p ↦ p | no p ↦ absurd (some (omega arith)) ]
 
+-- and all of its bytes
+pub usable_whole : (h : List ℕ) → usable_of h ≡ true → 16 ≤ length h
+unfolding usable_of
+usable_whole h usable = leb-true 16 (length h) (split (leb 16 (length h)) (flag_of h && not (eqb (id_of h) 0)) usable).0
+
 -- a half whose flag is 0 is not usable, nor is one that is cut short
 pub not_flagged : (h : List ℕ) → flag_of h ≡ false → usable_of h ≡ false
 unfolding usable_of
@@ -94,12 +101,43 @@ pub flagged : (h : List ℕ) → 16 ≤ length h → flag_of h ≡ true → usab
 unfolding usable_of
 flagged h whole set = simp (le-leb 16 (length h) whole, set)
 
+-- one that is cut short names no title
+pub cut_unnamed : (h : List ℕ) → length h < 16 → names_spent h ≡ false
+unfolding names_spent
+cut_unnamed h few = rw (lt-leb 16 (length h) few) refl
+
+-- flag 0 and an ID from 1 to 999, with all of its bytes there
+pub record SpentHalf (h : List ℕ) : Type 0 where
+  pub whole : 16 ≤ length h
+  pub flag : flag_of h ≡ false
+  pub from : 1 ≤ id_of h
+  pub to : id_of h ≤ 999
+
+pub names_lem : {h : List ℕ} → SpentHalf h → names_spent h ≡ true
+unfolding names_spent
+names_lem n = both (le-leb _ _ n.whole) (both (ap not n.flag) (range_numbered n.from n.to))
+
+pub names_says : (h : List ℕ) → names_spent h ≡ true → SpentHalf h
+unfolding names_spent
+names_says h e =
+    let (whole, rest) = split (leb 16 (length h)) _ e in
+    let (flag, named) = split (not (flag_of h)) (numbered (id_of h)) rest in
+    let (from, to) = numbered_range (id_of h) named in
+    record { whole = leb-true 16 (length h) whole; flag = not-true (flag_of h) flag; from = from; to = to }
+
 -- no ID counts where the half is not usable, and its own does where it is
 pub no_id : (h : List ℕ) → usable_of h ≡ false → usable_id h ≡ None
 no_id h e = simp e refl
 
 pub some_id : (h : List ℕ) → usable_of h ≡ true → usable_id h ≡ Some (record { 0 = id_of h })
 some_id h e = simp e refl
+
+pub has_id : (h : List ℕ) → is_some (usable_id h) ≡ usable_of h
+has_id h = by (usable_of h)
+  where
+    by : (b : Bool) → is_some {T = ContentId} (cond b (Some (record { 0 = id_of h })) None) ≡ b
+    by true = refl
+    by false = refl
 
 -- and so read the other way
 module _ (h : List ℕ) {found : Option ContentId} (is : found ≡ usable_id h) where
@@ -146,9 +184,13 @@ module _ (h : List ℕ) (f : ℕ) where
   unfolding wiped
   wiped_length size = put_length h _ 0 (simp (length-append, length_bytes_of) (omega arith))
 
-  flag_cleared : flag_of (wiped h f) ≡ false
+  -- it clears the flag, and leaves the ID
+  pub flag_cleared : flag_of (wiped h f) ≡ false
   unfolding wiped put bytes_of
   flag_cleared = lt-leb 128 (get_or (wiped h f) 8 0) (omega arith)
+
+  pub id_kept : id_of (wiped h f) ≡ id_of h
+  id_kept = omega (arith, wiped_kept 14 (omega arith), wiped_kept 15 (omega arith))
 
   -- a wiped half
   pub half_wiped : Wiped h f (wiped h f)
@@ -228,6 +270,19 @@ module _ (h : List ℕ) (byte : Bytes h) (size : 16 ≤ length h) where
       by (no f) d =
           le-ltb (2 ^ 63) (get_or h 8 0 / 128 * 2 ^ 63 + id_of h) (omega (arith, byte 8, byte 15))
           ∙ sym (not_flagged h (lt-leb 128 (get_or h 8 0) (omega arith)))
+
+  -- and they are from 1 to 999 where the flag is 0 and the ID is
+  pub tail_named : numbered (bit_and (number (part h 8 8)) (2 ^ 63 + 1023)) ≡ names_spent h
+  unfolding names_spent
+  tail_named = rw (tail_marks, le-leb 16 (length h) size) (by (dec_le 128 (get_or h 8 0)))
+    where
+      by : Dec (128 ≤ get_or h 8 0) → numbered (get_or h 8 0 / 128 * 2 ^ 63 + id_of h) ≡ (not (flag_of h) && numbered (id_of h))
+      by (yes f) =
+          rw (le-leb 128 (get_or h 8 0) f, lt-leb (get_or h 8 0 / 128 * 2 ^ 63 + id_of h) 999 (omega (arith, byte 8)))
+          (and_false (leb 1 (get_or h 8 0 / 128 * 2 ^ 63 + id_of h)))
+      by (no f) =
+          let same : get_or h 8 0 / 128 * 2 ^ 63 + id_of h ≡ id_of h = omega arith in
+          rw (same, lt-leb 128 (get_or h 8 0) (omega arith)) refl
 
 -- flag and ID by their bytes, as they come when the least significant is read first
 masked : (b8 b9 b10 b11 b12 b13 b14 b15 : ℕ) → b8 < 256 → b9 < 256 → b10 < 256 → b11 < 256 → b12 < 256 → b13 < 256 → b14 < 256 → b15 < 256

@@ -1,4 +1,4 @@
--- `write`: the heads, the room, then the rows and the last line. What is found out about the sheet's buffers is of those that are lent.
+-- `write`: the heads, the room, then the rows and the last two lines. What is found out about the sheet's buffers is of those that are lent.
 -- Assumes nothing.
 use mathlib.Core.Path.{refl, sym, ap, ◌∙◌}
 use Rattle.std.proofs.Common.{rules}
@@ -9,7 +9,7 @@ use Rattle.calls.specs.Buffers.{Buffers}
 use Rattle.calls.specs.Refusal.{first}
 use Rattle.calls.specs.Conditions.{all_head_conditions}
 use Rattle.closing_sheet.specs.Sheet.{sheet_writing, sheet_written_to}
-use Rattle.closing_sheet.proofs.sheet.Laws.{rows_fit, total_fits, sheet_put}
+use Rattle.closing_sheet.proofs.sheet.Laws.{rows_fit, last_fits, sheet_put}
 use Rattle.closing_sheet.proofs.sheet.Refusals.{head_refused, ledger_right, no_room, written}
 use Rattle.closing_sheet.proofs.sheet.write.Goals as goal
 
@@ -37,7 +37,7 @@ write_rows-sums-requires-clause-room c = rows_fit _ _ (leb-true _ _ (sym c.has_r
 pub write-requires : goal.write-requires
 write-requires c =
     let r = c.write_rows-sums.ensures in
-    total_fits _ _ (leb-true _ _ (sym c.has_room.ensures ∙ c.if-not-has_room.false)) r.permits_total r.copies_total (r.place, r.written)
+    last_fits _ _ (leb-true _ _ (sym c.has_room.ensures ∙ c.if-not-has_room.false)) r.permits_total r.copies_total r.spent (r.place, r.written)
 
 pub returns : goal.returns
 returns c =
@@ -45,7 +45,7 @@ returns c =
     let r = c.write_rows-sums.ensures in
     let t = c.write.ensures in
     let room = leb-true _ _ (sym c.has_room.ensures ∙ c.if-not-has_room.false) in
-    let e = sheet_put _ _ room r.permits_total r.copies_total (r.place, r.written) (t.place, t.written) in
+    let e = sheet_put _ _ room r.permits_total r.copies_total r.spent (r.place, r.written) (t.place, t.written) in
     let w = written c.args.pair _ _ heads refl room e.0 e.1 in
     let after = w.1 ∙ ap (λ (b : Buffers). sheet_written_to c.args.pair b c.args.text.now) c.of-sheet.ensures in
     let name = sym (t.name ∙ r.name) in

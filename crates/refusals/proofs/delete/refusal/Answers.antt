@@ -4,8 +4,8 @@ use Rattle.std.proofs.Common.{refl}
 use Rattle.refusals.proofs.Stages.{exit_before, past_before}
 use Rattle.refusals.proofs.delete.refusal.Goals as goal
 
-pub returns-in_err-before_entry : goal.returns-in_err-before_entry
-returns-in_err-before_entry c = exit_before _ _ _ _ _ c.from_residual.ensures.1 c.in_err-before_entry.ensures
+pub returns-in_err-before_entry-clause-answer : goal.returns-in_err-before_entry-clause-answer
+returns-in_err-before_entry-clause-answer c = exit_before _ _ _ _ _ c.from_residual.ensures.1 c.in_err-before_entry.ensures
 
-pub returns : goal.returns
-returns c = past_before c.args.pair _ _ c.in_ok-before_entry.ensures refl (c.state.ensures)
+pub returns-clause-answer : goal.returns-clause-answer
+returns-clause-answer c = past_before c.args.pair _ _ c.in_ok-before_entry.ensures refl c.state.ensures.answer

@@ -1,4 +1,4 @@
--- `summary` adds what each row adds, and the length of the last line.
+-- `summary` adds what each row adds, and the length of the last two lines.
 -- Assumes nothing.
 use Rattle.std.proofs.Common.{◌≡◌, arith}
 use Rattle.formats.specs.Head.{rows_of}
@@ -7,7 +7,7 @@ use Rattle.closing_sheet.proofs.sheet.Sheet.summary.Goals as goal
 use Rattle.closing_sheet.proofs.sheet.Sheet.summary.Goals.{in-Some, in_default}
 
 pub loop-k-init : goal.loop-k-init
-loop-k-init c = record { added = rw (c.default-sums.ensures.0, c.default-sums.ensures.1) (added_start _); measured = measured_start _ }
+loop-k-init c = record { added = rw (c.before_lines-sums.ensures.permits, c.before_lines-sums.ensures.copies) (added_start _); measured = measured_start _; spent = c.before_lines-sums.ensures.spent }
 
 pub add-requires : goal.add-requires
 add-requires c =
@@ -22,13 +22,14 @@ loop-k-preserved c =
     let i = c.loop-k.invariant in
     elim c.match-printed.branch [
       | in-Some w ↦
-          rw (w.sums-is, w.add.ensures.permits, w.add.ensures.copies, w.len-is)
+          rw (w.sums-is, w.add.ensures.permits, w.add.ensures.copies, w.add.ensures.spent, w.len-is)
           (record {
             added = added_line i.added w.in-Some.ensures;
             measured = measured_line i.measured w.in-Some.ensures w.len-len.ensures.text_length w.len-len.ensures.at_most_105;
+            spent = i.spent;
           })
       | in_default w ↦
-          rw (w.sums-is, w.len-is) (record { added = added_none i.added w.in_default.ensures; measured = measured_none i.measured w.in_default.ensures })
+          rw (w.sums-is, w.len-is) (record { added = added_none i.added w.in_default.ensures; measured = measured_none i.measured w.in_default.ensures; spent = i.spent })
     ]
 
 pub overflow_add-result : goal.overflow_add-result
@@ -39,4 +40,4 @@ returns c =
     let i = c.loop-k.invariant in
     let all : c.loop-k.k ≡ rows_of c.args.self.now.shop.ledger.now = omega arith in
     let (permits, copies) = added_all i.added all in
-    record { permits_total = permits; copies_total = copies; text_length = measured_all i.measured i.added all c.len.ensures.text_length }
+    record { permits_total = permits; copies_total = copies; spent = i.spent; text_length = measured_all i.measured i.added i.spent all c.len.ensures.text_length }

@@ -9,7 +9,8 @@ use Rattle.closing_sheet.proofs.sheet.Sheet.write_rows.Goals.{in-Some, in_defaul
 pub loop-k-init : goal.loop-k-init
 loop-k-init c =
     record {
-      added = rw (c.default-sums.ensures.0, c.default-sums.ensures.1) (added_start _);
+      added = rw (c.before_lines-sums.ensures.permits, c.before_lines-sums.ensures.copies) (added_start _);
+      spent = c.before_lines-sums.ensures.spent;
       written = written_start _ _ c.requires.front c.requires.room;
       name = refl;
     }
@@ -29,15 +30,16 @@ loop-k-preserved c =
     elim c.match-printed.branch [
       | in-Some w ↦
           let e = w.write.ensures in
-          rw (w.sums-is, w.add.ensures.permits, w.add.ensures.copies, w.text-is)
+          rw (w.sums-is, w.add.ensures.permits, w.add.ensures.copies, w.add.ensures.spent, w.text-is)
           (record {
             added = added_line i.added w.in-Some.ensures;
+            spent = i.spent;
             written = written_line i.written more w.in-Some.ensures e.place e.written;
             name = e.name ∙ i.name;
           })
       | in_default w ↦
           rw (w.sums-is, w.text-is)
-          (record { added = added_none i.added w.in_default.ensures; written = written_none i.written more w.in_default.ensures; name = i.name })
+          (record { added = added_none i.added w.in_default.ensures; spent = i.spent; written = written_none i.written more w.in_default.ensures; name = i.name })
     ]
 
 pub returns : goal.returns
@@ -46,4 +48,4 @@ returns c =
     let all : c.loop-k.k ≡ rows_of c.args.self.now.shop.ledger.now = omega arith in
     let (permits, copies) = added_all i.added all in
     let (place, written) = written_all i.written all in
-    record { permits_total = permits; copies_total = copies; place = place; written = written; name = i.name }
+    record { permits_total = permits; copies_total = copies; spent = i.spent; place = place; written = written; name = i.name }
