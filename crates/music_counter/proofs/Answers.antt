@@ -85,14 +85,10 @@ module _ (pair : Pair) (k : Request) (b : Buffers) {w : ℕ} (e : w ≡ refusal 
   unfolding perform
   refused other = simp (ne_eqb (refusal pair k b) 0 (λ z. other (e ∙ z)), e)
 
-  -- accepted, its needs are met
-  pub needed_where : w ≡ 0 → Named pair k b
-  unfolding perform
-  needed_where zero = needs_met pair k b (sym e ∙ zero)
-
-  -- so its places lie in its tables
+  -- accepted, its places lie in its tables
   pub inside : w ≡ 0 → Inside k b
-  inside zero = places pair k b (needed_where zero)
+  unfolding perform
+  inside zero = places pair k b (needs_met pair k b (sym e ∙ zero))
 
   -- done, its effect is there
   pub done : {after : Buffers} → w ≡ 0 → after ≡ effect k b → Answers pair k b 0 after

@@ -3,9 +3,8 @@
 use Prim.Native.Nat.{ℕ, ◌+◌, ◌-◌, ◌*◌, ◌/◌, ◌%◌, ◌^◌, ◌≤◌, ◌<◌}
 use mathlib.Core.Path.{◌≡◌, refl, sym, ap, ◌∙◌}
 use mathlib.Core.List.{List, [], ◌∷◌, ◌++◌}
-use mathlib.Core.Bool.{Bool, true, false, not, ◌&&◌, cond}
+use mathlib.Core.Bool.{Bool, true, false, not, ◌&&◌}
 use Rattle.std.specs.Prelude.{Option, Some, None}
-use Rattle.std.specs.Option.{is_some}
 use Rattle.std.proofs.lemmas.Option.{none-some, cond_some}
 use Rattle.formats.specs.declared.facts.ContentId.{ContentId}
 use native.Mathlib.Omega.{arith}
@@ -131,13 +130,6 @@ no_id h e = simp e refl
 
 pub some_id : (h : List ℕ) → usable_of h ≡ true → usable_id h ≡ Some (record { 0 = id_of h })
 some_id h e = simp e refl
-
-pub has_id : (h : List ℕ) → is_some (usable_id h) ≡ usable_of h
-has_id h = by (usable_of h)
-  where
-    by : (b : Bool) → is_some {T = ContentId} (cond b (Some (record { 0 = id_of h })) None) ≡ b
-    by true = refl
-    by false = refl
 
 -- and so read the other way
 module _ (h : List ℕ) {found : Option ContentId} (is : found ≡ usable_id h) where
