@@ -2,7 +2,8 @@
 # make bench: the library against plain C. make plot: a picture of what it measured.
 SHELL = bash
 .SHELLFLAGS = -o pipefail -ec
-.PHONY: demo test host-tests expected till constants compare soak programs requests references history sheet bench plot
+.PHONY: demo test host-tests expected till constants compare soak programs requests inspection references
+.PHONY: history sheet inspect bench plot
 .PHONY: target/staticlib/libtill.a target/bin/counter target/bin/sheet target/bin/edges
 
 demo: target/bin/counter
@@ -12,7 +13,7 @@ test:
 	@host/test.sh
 
 # What is tested outside Rattle, on the library and the programs that are proved.
-host-tests: expected till constants compare requests references programs
+host-tests: expected till constants compare requests references programs inspection
 
 # The cases that the test program reads and what it must print, worked out from the paper by a program of its own; and those of the
 # closing sheet, which it is run on here.
@@ -49,7 +50,7 @@ target/host/till-test: host/till/test.c include/music_counter.h target/staticlib
 
 # The library against an implementation of the rules of its own, audio and picture: calls and requests by seed, all bytes after each.
 compare: target/host/compare
-	target/host/compare calls 5000000 1
+	target/host/compare calls 7000000 1
 
 # The same for as long as wanted, with new seeds: make soak SECONDS=600 SEED=1
 SECONDS = 60
@@ -87,6 +88,29 @@ requests: target/host/requests
 target/host/requests: host/requests/main.rs $(wildcard host/requests/*.rs) include/music_counter.h
 	@mkdir -p target/host
 	rustc --edition 2021 -O -o $@ $<
+
+# The card and the ledger of which `make sheet` prints the sheet.
+inspect: target/host/buffers target/host/inspect
+	@$(INSPECTED)
+
+BUFFERS = $(addprefix target/host/, titles rules ledger)
+INSPECTED = target/host/buffers $(BUFFERS) < crates/sheet/stdin && target/host/inspect $(BUFFERS)
+
+# The tools that write ledger and card to files and show what stands there: as they are used, and with sanitizers.
+inspection: target/host/requests target/host/inspect target/host/buffers target/guarded/inspect target/guarded/buffers
+	host/inspect/test.sh target/host/inspect target/host/buffers
+	host/inspect/test.sh target/guarded/inspect target/guarded/buffers
+	{ $(INSPECTED); } | cmp - examples/inspected.txt
+
+target/host/inspect target/guarded/inspect: $(addprefix host/inspect/, inspect.c heads.c tables.c faults.c files.c)
+target/host/buffers target/guarded/buffers: $(addprefix host/inspect/, buffers.c files.c)
+target/host/inspect target/host/buffers: BUILT = -O2
+target/guarded/inspect target/guarded/buffers: BUILT = $(GUARDS)
+
+target/host/inspect target/host/buffers target/guarded/inspect target/guarded/buffers: $(wildcard host/inspect/*.h)
+target/host/inspect target/host/buffers target/guarded/inspect target/guarded/buffers: include/music_counter.h target/staticlib/libtill.a
+	@mkdir -p $(@D)
+	$(C) $(BUILT) -o $@ $(filter %.c,$^) target/staticlib/libtill.a
 
 # What the documents refer to is in the source. After an edit, host/docs/check.sh --update sets their line numbers anew.
 references:

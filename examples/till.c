@@ -1,6 +1,7 @@
 /*
  * One title's way through a till: registered, lent, returned, moved to the card and back, deleted. Beside it a picture, lent
- * and returned. Then a call as request bytes, written and read back, and a basket of requests, previewed and committed.
+ * and returned. Then a call as request bytes, written and read back, and a basket of requests, previewed and committed. Last
+ * it is shown what stands on the card and in the ledger.
  */
 #include <inttypes.h>
 #include <stdio.h>
@@ -134,6 +135,44 @@ static void serve_a_basket(uint64_t f1)
     show_copies(COUNTER_AUDIO, TITLES, RULES, 2);
 }
 
+/* What an entry of the card is and holds. What it does not have is told as 0. */
+static void show_entry(uint64_t entry)
+{
+    const char *const kinds[] = {"free", "copy", "full", "torn", "spent"};
+    uint64_t kind, content, facts[COUNTER_FACT_COUNT];
+    uint64_t answer = counter_inspect_entry(COUNTER_AUDIO, TITLES, RULES, entry, &kind, &content, facts);
+
+    show("inspect an entry", answer);
+    if (answer == COUNTER_DONE)
+        printf("    entry %" PRIu64 ": %s, title %" PRIu64 ", CCI %" PRIu64 "\n", entry, kinds[kind], content,
+               facts[COUNTER_FACT_CCI]);
+}
+
+/* A title's row, and over its row and the whole card its holders, one where all is well, and the loans that are out. */
+static void show_title(uint64_t content)
+{
+    const char *const states[] = {"empty", "here", "away", "gone", "in no state"};
+    uint64_t state, facts[COUNTER_FACT_COUNT], holders, copies;
+
+    if (counter_inspect_row(LEDGER, content, &state, facts) != COUNTER_DONE ||
+        counter_inspect_title(COUNTER_AUDIO, LEDGER, TITLES, RULES, content, &holders, &copies) != COUNTER_DONE)
+        return;
+    printf("    title %" PRIu64 ": %s, rights %" PRIu64 ", permits %" PRIu64 "; holders %" PRIu64 ", copies %" PRIu64 "\n",
+           content, states[state], facts[COUNTER_FACT_RIGHTS], facts[COUNTER_FACT_PERMITS], holders, copies);
+}
+
+static void show_what_is_there(void)
+{
+    uint64_t vacant = 0;
+
+    show_entry(7);
+    show_entry(8);
+    show_title(1);
+    show_title(2);
+    show("first vacant entry from 7 on", counter_first_vacant(COUNTER_AUDIO, TITLES, RULES, 7, &vacant));
+    printf("    entry %" PRIu64 "\n", vacant);
+}
+
 int main(void)
 {
     /* Title 1: one generation, three moves, one copy at a time. The card's secure module supplies keys and hash. */
@@ -172,5 +211,6 @@ int main(void)
     show_request(COUNTER_CHECK_OUT, (const uint64_t[COUNTER_ARGUMENTS]){5, 999});
 
     serve_a_basket(f1);
+    show_what_is_there();
     return 0;
 }

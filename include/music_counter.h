@@ -51,7 +51,8 @@
  *   null, also where its length is 0.
  * - The buffers of one call, a preview's scratch buffers among them, do not overlap, nor do the places for the numbers that it
  *   writes, with them or with each other. A request or a basket that a call reads overlaps nothing that it writes.
- * - Arrays have as many places as this header says: arguments nine, a basket and its answers sixteen, whatever count is.
+ * - Arrays have as many places as this header says: arguments nine, facts six, a basket and its answers sixteen, whatever count
+ *   is.
  * - Nobody else writes to the buffers while a call runs, and nobody reads them while a call runs that may write them. Calls
  *   on different buffers may run at the same time: the library keeps nothing between calls.
  * - Music and pictures have a ledger each, and every call that is lent a card names the pair that its ledger is for.
@@ -64,8 +65,8 @@
  * Every function answers a number: COUNTER_DONE (0), or the number of a refusal. A refusal changes no byte of any buffer.
  * Places that a function writes numbers to keep their values on a refusal, but for *entries_read of counter_move_in, which
  * is always written. The first test that fails gives the answer, and each function's comment has its numbers in the order
- * tested. The seven calls, formatting, tally and preview test in the order of the numbers. The sheet tests 1 last, after 7,
- * 8 and 9. Performing a request tests its kind, 3, and then what its call tests.
+ * tested. The seven calls, formatting, tally, inspection and preview test in the order of the numbers. The sheet tests 1 last,
+ * after 7, 8 and 9. Performing a request tests its kind, 3, and then what its call tests.
  * Reading a request tests each number of the request for 1, for 2 and for its own limit (3 to 6) before it reads the next.
  * Writing one tests its kind and arguments in their order (3 to 6), and 1 last. counter_text names a number in words.
  *
@@ -92,7 +93,7 @@ extern "C" {
  * The interface that this header declares: 1 more with each release that changes a declaration. The linker does not compare
  * parameters, so compile a till anew with the header of its library.
  */
-#define COUNTER_INTERFACE 5
+#define COUNTER_INTERFACE 6
 
 /* The two pairs of tables, for `bool pair`. */
 #define COUNTER_AUDIO false
@@ -268,6 +269,89 @@ uint64_t counter_delete(bool pair, uint8_t *ledger, size_t ledger_len, uint8_t *
  */
 uint64_t counter_tally(bool pair, const uint8_t *titles, size_t titles_len, const uint8_t *rules, size_t rules_len,
                        uint64_t content, uint64_t *copies);
+
+/*
+ * INSPECTION
+ *
+ * What stands on a card and in a ledger, told without changing a byte of it: all buffers are only read. A card whose rule table
+ * has a version above 11h is inspected like any other, and so are damaged entries and rows, where the heads are right. To see
+ * all of a card, inspect its entries 1 to 999; all of a ledger, its rows from 1 on until one is answered 11.
+ */
+
+/* The kinds of an entry, as counter_inspect_entry tells them. */
+enum {
+    COUNTER_ENTRY_FREE = 0,
+    COUNTER_ENTRY_COPY = 1,
+    COUNTER_ENTRY_FULL = 2,
+    COUNTER_ENTRY_TORN = 3,
+    COUNTER_ENTRY_SPENT = 4
+};
+
+/* The states of a row, as counter_inspect_row tells them. */
+enum {
+    COUNTER_ROW_EMPTY = 0,
+    COUNTER_ROW_HERE = 1,
+    COUNTER_ROW_AWAY = 2,
+    COUNTER_ROW_GONE = 3,
+    COUNTER_ROW_NO_STATE = 4    /* damaged */
+};
+
+/* The places of the facts that both tell, in the order in which counter_register takes them. */
+#define COUNTER_FACT_COUNT 6
+
+enum {
+    COUNTER_FACT_CCI = 0,
+    COUNTER_FACT_TRIGGER = 1,
+    COUNTER_FACT_RIGHTS = 2,
+    COUNTER_FACT_PERMITS = 3,
+    COUNTER_FACT_TITLE_KEY = 4,
+    COUNTER_FACT_STI_KEY = 5
+};
+
+/*
+ * Tells what an entry of the card is and what it holds.
+ *
+ * Answers 5, 8, 9. There is no ledger here, so 9 does not ask whose application the card is of.
+ * Done: *kind is its kind; *content the content ID in its title half where it is a copy, full or spent, else 0; facts are, of a
+ * full entry, all six; of a copy its CCI and its title key, and 0 in the other places, for its permits and rights are its row's;
+ * of any other entry six zeros. On a refusal all three keep their values.
+ */
+uint64_t counter_inspect_entry(bool pair, const uint8_t *titles, size_t titles_len, const uint8_t *rules, size_t rules_len,
+                               uint64_t entry, uint64_t *kind, uint64_t *content, uint64_t facts[COUNTER_FACT_COUNT]);
+
+/*
+ * Tells what the row of title `content` is and what it holds.
+ *
+ * Answers 4, 7; 11 where the row is above R, and for no other reason.
+ * Done: *state is its state; facts are all six of a row that is here, and of any other six zeros. On a refusal both keep their
+ * values. (A damaged row is COUNTER_ROW_NO_STATE here; the closing sheet shows its byte 0.)
+ */
+uint64_t counter_inspect_row(const uint8_t *ledger, size_t ledger_len, uint64_t content, uint64_t *state,
+                             uint64_t facts[COUNTER_FACT_COUNT]);
+
+/*
+ * Counts the holders and the copies of title `content`, over its row and the whole card. Its holders are its row, where that is
+ * here, and each full entry with its content ID. Where ledger and card are sound, a title that was registered or recorded and
+ * not deleted has 1 holder, and as many copies as loans that are out; one that was deleted, or that never was there, has
+ * neither, and its row's state tells which. After a loss, a power failure between two tables for one, there may be 0 holders,
+ * or 2 and more. Of an entry that shows a title above R, which no row is for, nothing can be counted: 11.
+ *
+ * Answers 4, 7, 8, 9; 11 where the row is above R, and for no other reason.
+ * Done: *holders is the number of holders, 0 to 1000, and *copies that of copies, as counter_tally counts them. On a refusal both
+ * keep their values.
+ */
+uint64_t counter_inspect_title(bool pair, const uint8_t *ledger, size_t ledger_len, const uint8_t *titles, size_t titles_len,
+                               const uint8_t *rules, size_t rules_len, uint64_t content, uint64_t *holders, uint64_t *copies);
+
+/*
+ * Finds the first entry, from entry `from` on, in which a title may be put: one that is free or spent, at which no record,
+ * check-out or move in is answered 10.
+ *
+ * Answers 5 where from is not 1 to 999; 8, 9, as inspecting an entry.
+ * Done: *entry is the number of that entry, or 0 where there is none from there on. On a refusal it keeps its value.
+ */
+uint64_t counter_first_vacant(bool pair, const uint8_t *titles, size_t titles_len, const uint8_t *rules, size_t rules_len,
+                              uint64_t from, uint64_t *entry);
 
 /*
  * THE CLOSING SHEET

@@ -83,6 +83,18 @@ static double time_once(size_t scene, const struct counter *counter)
     return (end - start) / calls_of(&scenes[scene]);
 }
 
+/* Who goes first changes from round to round. */
+static void time_rounds(void)
+{
+    for (unsigned round = 0; round < ROUNDS; round++)
+        for (size_t i = 0; i < scene_count; i++)
+            for (unsigned turn = 0; turn < 2; turn++) {
+                unsigned which = (turn + round) % 2;
+
+                samples[i][which][round] = time_once(i, counters[which]);
+            }
+}
+
 /* ---------------------------------------------------------------- checking */
 
 /* Each request of a previewed basket is answered what the scene is to measure. */
@@ -237,23 +249,18 @@ int main(int count, char **words)
         if (scenes[i].stream != NULL)
             check_stream(&scenes[i]);
     }
-    for (unsigned round = 0; round < ROUNDS; round++)
-        for (size_t i = 0; i < scene_count; i++)
-            for (unsigned turn = 0; turn < 2; turn++) {
-                unsigned which = (turn + round) % 2;
-
-                samples[i][which][round] = time_once(i, counters[which]);
-            }
+    time_rounds();
     take_medians();
     printf("\nA call that is timed in many entries finds what it needs there: on a card of the other sort these are every second\n"
            "entry, and the rest is as the card is named (record and check-out need free or spent entries, check-in and delete\n"
            "copy need copies, move out and delete title full ones). A move in has entry 999 free on a full card; its row and that\n"
-           "entry are put back between calls, within the time. A sheet has a line for every row; on a card of copies and titles every\n"
-           "second row is away. A preview copies a ledger of 999 rows and both tables, 72,000 bytes, whatever the basket has.\n"
-           "All cards are audio cards.\n");
+           "entry are put back between calls, within the time. A first vacant entry is sought from entry 1 on. A sheet has a line for\n"
+           "every row; on a card of copies and titles every second row is away. A preview copies a ledger of 999 rows and both\n"
+           "tables, 72,000 bytes, whatever the basket has. All cards are audio cards.\n");
     show_section("operation", "Operations, ns per call", 1);
     show_section("refusal", "Refusals, ns per call", 1);
     show_section("scan", "Tallies, ns per entry scanned", COUNTER_LAST_ENTRY);
+    show_section("card", "All 999 entries inspected, microseconds per card", 1000);
     show_section("sheet", "Sheets, microseconds per call", 1000);
     show_section("preview", "Previews, microseconds per call", 1000);
     show_growth();

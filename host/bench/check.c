@@ -6,7 +6,7 @@
 
 #include "scenes.h"
 
-#define CALLS_ON_A_SHOP 24
+#define CALLS_ON_A_SHOP 32
 #define ANSWERS (COUNTER_SCRATCH + 1)
 #define KEY_LIMIT ((uint64_t)1 << 56)
 
@@ -47,7 +47,7 @@ static uint64_t near(uint64_t usual, uint64_t edge)
 struct state {
     struct shop shop;
     size_t ledger_len, titles_len, rules_len;
-    uint64_t copies, entries_read;
+    uint64_t copies, entries_read, holders, kind, content, row_state, facts[COUNTER_FACT_COUNT], vacant;
     uint8_t text[COUNTER_SHEET_SIZE];
     size_t used;
 };
@@ -179,9 +179,10 @@ struct call {
 static const struct {
     const char *name;
     bool has_pair;
-} operations[] = {{"format ledger", false}, {"format card", true}, {"register", false}, {"record", true}, {"check-out", true},
-                  {"check-in", true},       {"move out", true},    {"move in", true},   {"delete", true}, {"tally", true},
-                  {"sheet", true},          {"perform", true}};
+} operations[] = {{"format ledger", false}, {"format card", true},   {"register", false},      {"record", true},
+                  {"check-out", true},      {"check-in", true},      {"move out", true},       {"move in", true},
+                  {"delete", true},         {"tally", true},         {"inspect entry", true},  {"inspect row", false},
+                  {"inspect title", true},  {"first vacant", true},  {"sheet", true},          {"perform", true}};
 
 #define OPERATIONS (sizeof operations / sizeof operations[0])
 
@@ -246,7 +247,11 @@ static uint64_t perform(const struct counter *counter, struct state *state, cons
     case 7: return counter->move_in(pair, L, T, R, call->content, call->entry, call->hash, &state->entries_read);
     case 8: return counter->delete_entry(pair, L, T, R, call->entry, call->f[0], call->f[1], call->f[2], call->f[3]);
     case 9: return counter->tally(pair, T, R, call->content, &state->copies);
-    case 10: return counter->sheet(pair, L, T, R, state->text, call->text_len, &state->used);
+    case 10: return counter->inspect_entry(pair, T, R, call->entry, &state->kind, &state->content, state->facts);
+    case 11: return counter->inspect_row(L, call->content, &state->row_state, state->facts);
+    case 12: return counter->inspect_title(pair, L, T, R, call->content, &state->holders, &state->copies);
+    case 13: return counter->first_vacant(pair, T, R, call->entry, &state->vacant);
+    case 14: return counter->sheet(pair, L, T, R, state->text, call->text_len, &state->used);
     default: return counter->perform(pair, L, T, R, &call->request);
     }
 }
@@ -255,6 +260,9 @@ static uint64_t perform(const struct counter *counter, struct state *state, cons
 static void forget(struct state *state)
 {
     state->copies = state->entries_read = state->used = 77;
+    state->holders = state->kind = state->content = state->row_state = state->vacant = 77;
+    for (size_t i = 0; i < COUNTER_FACT_COUNT; i++)
+        state->facts[i] = 77;
     memset(state->text, 0xa5, sizeof state->text);
 }
 

@@ -42,6 +42,18 @@ uint64_t plain_delete(bool pair, uint8_t *ledger, size_t ledger_len, uint8_t *ti
 uint64_t plain_tally(bool pair, const uint8_t *titles, size_t titles_len, const uint8_t *rules, size_t rules_len,
                      uint64_t content, uint64_t *copies);
 
+uint64_t plain_inspect_entry(bool pair, const uint8_t *titles, size_t titles_len, const uint8_t *rules, size_t rules_len,
+                             uint64_t entry, uint64_t *kind, uint64_t *content, uint64_t facts[COUNTER_FACT_COUNT]);
+
+uint64_t plain_inspect_row(const uint8_t *ledger, size_t ledger_len, uint64_t content, uint64_t *state,
+                           uint64_t facts[COUNTER_FACT_COUNT]);
+
+uint64_t plain_inspect_title(bool pair, const uint8_t *ledger, size_t ledger_len, const uint8_t *titles, size_t titles_len,
+                             const uint8_t *rules, size_t rules_len, uint64_t content, uint64_t *holders, uint64_t *copies);
+
+uint64_t plain_first_vacant(bool pair, const uint8_t *titles, size_t titles_len, const uint8_t *rules, size_t rules_len,
+                            uint64_t from, uint64_t *entry);
+
 uint64_t plain_sheet(bool pair, const uint8_t *ledger, size_t ledger_len, const uint8_t *titles, size_t titles_len,
                      const uint8_t *rules, size_t rules_len, uint8_t *text, size_t text_len, size_t *used);
 

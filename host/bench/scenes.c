@@ -29,14 +29,16 @@
 /* The title of a full entry. */
 #define TITLE_OF(entry) (1000 - (entry))
 
-const struct counter proved = {counter_format_ledger, counter_format_card, counter_register, counter_record,
-                               counter_check_out,     counter_check_in,    counter_move_out, counter_move_in,
-                               counter_delete,        counter_tally,       counter_sheet,    counter_read_request,
-                               counter_write_request, counter_perform,     counter_preview};
-const struct counter plain = {plain_format_ledger, plain_format_card, plain_register, plain_record,
-                              plain_check_out,     plain_check_in,    plain_move_out, plain_move_in,
-                              plain_delete,        plain_tally,       plain_sheet,    plain_read_request,
-                              plain_write_request, plain_perform,     plain_preview};
+const struct counter proved = {counter_format_ledger, counter_format_card,   counter_register,      counter_record,
+                               counter_check_out,     counter_check_in,      counter_move_out,      counter_move_in,
+                               counter_delete,        counter_tally,         counter_inspect_entry, counter_inspect_row,
+                               counter_inspect_title, counter_first_vacant,  counter_sheet,         counter_read_request,
+                               counter_write_request, counter_perform,       counter_preview};
+const struct counter plain = {plain_format_ledger, plain_format_card,  plain_register,      plain_record,
+                              plain_check_out,     plain_check_in,     plain_move_out,      plain_move_in,
+                              plain_delete,        plain_tally,        plain_inspect_entry, plain_inspect_row,
+                              plain_inspect_title, plain_first_vacant, plain_sheet,         plain_read_request,
+                              plain_write_request, plain_perform,      plain_preview};
 
 struct scene scenes[MOST_SCENES];
 size_t scene_count;
@@ -222,6 +224,55 @@ static uint64_t tallies(const struct counter *counter, struct shop *shop, const 
     return sum;
 }
 
+static uint64_t inspect_entries(const struct counter *counter, struct shop *shop, const struct scene *scene)
+{
+    uint64_t sum = 0;
+
+    for (EACH(entry, scene->places))
+        sum += counter->inspect_entry(COUNTER_AUDIO, TITLES(shop), RULES(shop), entry, &written.told[0], &written.told[1],
+                                      written.facts);
+    return sum;
+}
+
+/* Each call of the scene is one of every entry. */
+static uint64_t inspect_cards(const struct counter *counter, struct shop *shop, const struct scene *scene)
+{
+    struct scene entries = {.places = {1, LAST, 1}};
+    uint64_t sum = 0;
+
+    for (unsigned i = 0; i < scene->calls; i++)
+        sum += inspect_entries(counter, shop, &entries);
+    return sum;
+}
+
+static uint64_t inspect_rows(const struct counter *counter, struct shop *shop, const struct scene *scene)
+{
+    uint64_t sum = 0;
+
+    for (EACH(content, scene->places))
+        sum += counter->inspect_row(LEDGER(shop), content, &written.told[0], written.facts);
+    return sum;
+}
+
+static uint64_t inspect_titles(const struct counter *counter, struct shop *shop, const struct scene *scene)
+{
+    uint64_t sum = 0;
+
+    for (unsigned i = 0; i < scene->calls; i++)
+        sum += counter->inspect_title(COUNTER_AUDIO, LEDGER(shop), TITLES(shop), RULES(shop), scene->content,
+                                      &written.told[0], &written.told[1]);
+    return sum;
+}
+
+static uint64_t first_vacants(const struct counter *counter, struct shop *shop, const struct scene *scene)
+{
+    uint64_t sum = 0;
+
+    for (unsigned i = 0; i < scene->calls; i++)
+        sum += counter->first_vacant(COUNTER_AUDIO, TITLES(shop), RULES(shop), 1, &written.told[0]);
+    return sum;
+}
+
 static uint64_t sheets(const struct counter *counter, struct shop *shop, const struct scene *scene)
 {
     uint64_t sum = 0;
@@ -322,6 +373,7 @@ static const struct basket no_request = {0, COUNTER_DONE, {{0, {0}}}};
 #define OP .section = "operation"
 #define NO .section = "refusal"
 #define ON .section = "scan", .batch = tallies, .calls = SCANS, .shops = 1
+#define CARD .section = "card", .operation = "inspect card", .batch = inspect_cards, .calls = 8, .shops = 1
 #define SHEET .section = "sheet", .batch = sheets, .shops = 1
 #define PREVIEW .section = "preview", IN_USE, .batch = previews, .calls = 16, .shops = 1
 
@@ -365,6 +417,23 @@ static const struct scene fixed[] = {
      .calls = SCANS, .shops = 1},
     {OP, .operation = "tally", .card = TITLES_THAT_DIFFER, .full = ALL_BUT_LAST, .batch = tallies, .content = 1,
      .calls = SCANS, .shops = 1},
+    {OP, .operation = "inspect entry, full", .card = TITLES_THAT_DIFFER, .full = ALL_BUT_LAST, .batch = inspect_entries,
+     .places = ALL_BUT_LAST, .shops = 8},
+    {OP, .operation = "inspect entry, copy", .card = COPIES, .copies = ALL, .lent = 1, .batch = inspect_entries, .places = ALL,
+     .shops = 8},
+    {OP, .operation = "inspect entry, free", .card = EMPTY, .batch = inspect_entries, .places = ALL, .shops = 8},
+    {OP, .operation = "inspect row, here", .card = "-", .here = ALL_BUT_FIRST, .batch = inspect_rows, .places = ALL,
+     .shops = 8},
+    {OP, .operation = "inspect title", .card = EMPTY, .batch = inspect_titles, .content = 1, .calls = SCANS, .shops = 1},
+    {OP, .operation = "inspect title", .card = COPIES, .copies = ALL, .lent = 1, .batch = inspect_titles, .content = 1,
+     .calls = SCANS, .shops = 1},
+    {OP, .operation = "inspect title", .card = TITLES_THAT_DIFFER, .full = ALL_BUT_LAST, .batch = inspect_titles, .content = 1,
+     .calls = SCANS, .shops = 1},
+    {OP, .operation = "first vacant", .card = EMPTY, .batch = first_vacants, .calls = 4000, .shops = 1},
+    {OP, .operation = "first vacant, the last", .card = COPIES, .copies = ALL_BUT_LAST, .lent = 1, .batch = first_vacants,
+     .calls = SCANS, .shops = 1},
+    {OP, .operation = "first vacant, the last", .card = TITLES_THAT_DIFFER, .full = ALL_BUT_LAST, .batch = first_vacants,
+     .calls = SCANS, .shops = 1},
 
     {NO, .operation = "register, row taken", .card = "-", .full = ALL_BUT_LAST, .batch = registers, .places = ALL,
      .shops = 8, .answer = COUNTER_STATE_OF_ROW},
@@ -383,6 +452,11 @@ static const struct scene fixed[] = {
     {ON, .operation = "every entry has a copy", .card = COPIES, .copies = ALL, .lent = 1, .content = 1},
     {ON, .operation = "every entry has it, flag 0", .card = "copies checked in", .copies = ALL, .lent = 1, .stale = 1,
      .content = 1},
+
+    {CARD, .card = EMPTY},
+    {CARD, .card = COPIES, .copies = ALL, .lent = 1},
+    {CARD, .card = TITLES_THAT_DIFFER, .full = ALL_BUT_LAST},
+    {CARD, .card = COPIES_AND_TITLES, .copies = EVEN, .lent = 1, .full = ODD_BUT_LAST},
 
     {SHEET, .operation = "64 rows", .card = EMPTY, .rows = 64, .here = {2, 64, 1}, .calls = 32},
     {SHEET, .operation = "64 rows", .card = COPIES_AND_TITLES, .rows = 64, .here = {3, 63, 2}, .copies = {1, 935, 1}, .lent = 1,

@@ -24,6 +24,12 @@ struct counter {
     uint64_t (*delete_entry)(bool, uint8_t *, size_t, uint8_t *, size_t, uint8_t *, size_t, uint64_t, uint64_t, uint64_t,
                              uint64_t, uint64_t);
     uint64_t (*tally)(bool, const uint8_t *, size_t, const uint8_t *, size_t, uint64_t, uint64_t *);
+    uint64_t (*inspect_entry)(bool, const uint8_t *, size_t, const uint8_t *, size_t, uint64_t, uint64_t *, uint64_t *,
+                              uint64_t *);
+    uint64_t (*inspect_row)(const uint8_t *, size_t, uint64_t, uint64_t *, uint64_t *);
+    uint64_t (*inspect_title)(bool, const uint8_t *, size_t, const uint8_t *, size_t, const uint8_t *, size_t, uint64_t,
+                              uint64_t *, uint64_t *);
+    uint64_t (*first_vacant)(bool, const uint8_t *, size_t, const uint8_t *, size_t, uint64_t, uint64_t *);
     uint64_t (*sheet)(bool, const uint8_t *, size_t, const uint8_t *, size_t, const uint8_t *, size_t, uint8_t *, size_t,
                       size_t *);
     uint64_t (*read_request)(const uint8_t *, size_t, uint64_t *, uint64_t *, size_t *);
@@ -86,7 +92,7 @@ struct scene {
     unsigned in_use;  /* entries in use, in the section on growth */
     batch *batch;
     struct run places; /* the entries, or rows, that the calls name */
-    unsigned content;  /* the title that a tally names */
+    unsigned content;  /* the title that a tally or an inspection names */
     unsigned calls;    /* a batch's calls on one shop */
     unsigned shops;    /* a batch is run on so many shops alike */
     uint64_t answer;   /* of every call */
@@ -105,11 +111,15 @@ void make_scenes(void);
 /* Brings a shop into the state from which a scene's calls start. */
 void prepare(struct shop *shop, const struct scene *scene);
 
-/* What a scene's calls write beside the shop: requests, or a sheet; of a preview the scratch buffers and the answers. */
+/*
+ * What a scene's calls write beside the shop: requests, or a sheet; of a preview the scratch buffers and the answers; of an
+ * inspection what it tells.
+ */
 struct output {
     uint8_t bytes[COUNTER_SHEET_SIZE];
     struct shop scratch;
     uint64_t answers[COUNTER_BASKET_SIZE];
+    uint64_t told[2], facts[COUNTER_FACT_COUNT];
 };
 
 _Static_assert(REQUESTS * COUNTER_LONGEST_REQUEST <= COUNTER_SHEET_SIZE, "room for the requests");

@@ -1,6 +1,6 @@
-//! The eleven operations that a call names, by document 01 and requests W1 to W5 and W7 of document 02, on tables of either pair:
-//! each tests its conditions in their order, and changes the tables, or what it writes beside them, only when none of them refuses.
-//! What carries such calls out as requests, and previews them, is in `preview`.
+//! The fifteen operations that a call names, by document 01 and requests W1 to W5 and W7 of document 02, and by what music_counter.h
+//! says of inspection, on tables of either pair: each tests its conditions in their order, and changes the tables, or what it writes
+//! beside them, only when none of them refuses. What carries such calls out as requests, and previews them, is in `preview`.
 
 use crate::sheet::{self, MOST_TEXT};
 use crate::tables::{CardHead, Entry, EntryKind, Facts, LedgerHead, Pair, Row, RowState, RuleHalf, Tables, TitleHalf};
@@ -16,6 +16,10 @@ pub enum Call {
     MoveIn { content: u64, entry: u64, hash: u64 },
     Delete { entry: u64, fillers: [u64; 4] },
     Tally { content: u64 },
+    InspectEntry { entry: u64 },
+    InspectRow { content: u64 },
+    InspectTitle { content: u64 },
+    FirstVacant { from: u64 },
     /// The sheet, into the first `room` bytes of a text.
     Sheet { room: u64 },
     FormatLedger { rows: u64, application: u16 },
@@ -32,6 +36,10 @@ pub enum Operation {
     MoveIn,
     Delete,
     Tally,
+    InspectEntry,
+    InspectRow,
+    InspectTitle,
+    FirstVacant,
     Sheet,
     FormatLedger,
     FormatCard,
@@ -39,7 +47,7 @@ pub enum Operation {
 
 /// The operations in their order, their names, and the answers that the paper allows them. The first seven are the kinds of
 /// requests, 1 to 7. The last two, from `FORMATTING` on, look at no bytes.
-pub const OPERATIONS: [(Operation, &str, &[u64]); 11] = [
+pub const OPERATIONS: [(Operation, &str, &[u64]); 15] = [
     (Operation::Register, "register", &[0, 4, 6, 7, 11]),
     (Operation::Record, "record", &[0, 4, 5, 6, 7, 8, 9, 10, 11]),
     (Operation::CheckOut, "check-out", &[0, 4, 5, 7, 8, 9, 10, 11, 12]),
@@ -48,11 +56,17 @@ pub const OPERATIONS: [(Operation, &str, &[u64]); 11] = [
     (Operation::MoveIn, "move in", &[0, 4, 5, 7, 8, 9, 10, 11, 12, 14]),
     (Operation::Delete, "delete", &[0, 5, 7, 8, 9, 10, 11, 16]),
     (Operation::Tally, "tally", &[0, 4, 8, 9]),
+    (Operation::InspectEntry, "inspect entry", &[0, 5, 8, 9]),
+    (Operation::InspectRow, "inspect row", &[0, 4, 7, 11]),
+    (Operation::InspectTitle, "inspect title", &[0, 4, 7, 8, 9, 11]),
+    (Operation::FirstVacant, "first vacant", &[0, 5, 8, 9]),
     (Operation::Sheet, "sheet", &[0, 1, 7, 8, 9]),
     (Operation::FormatLedger, "format ledger", &[0, 4, 7]),
     (Operation::FormatCard, "format card", &[0, 8, 9]),
 ];
 pub const KINDS: usize = Operation::Delete as usize + 1;
+pub const INSPECTIONS: [Operation; 4] =
+    [Operation::InspectEntry, Operation::InspectRow, Operation::InspectTitle, Operation::FirstVacant];
 pub const FORMATTING: usize = Operation::FormatLedger as usize;
 
 impl Call {
@@ -66,24 +80,34 @@ impl Call {
             Call::MoveIn { .. } => Operation::MoveIn,
             Call::Delete { .. } => Operation::Delete,
             Call::Tally { .. } => Operation::Tally,
+            Call::InspectEntry { .. } => Operation::InspectEntry,
+            Call::InspectRow { .. } => Operation::InspectRow,
+            Call::InspectTitle { .. } => Operation::InspectTitle,
+            Call::FirstVacant { .. } => Operation::FirstVacant,
             Call::Sheet { .. } => Operation::Sheet,
             Call::FormatLedger { .. } => Operation::FormatLedger,
             Call::FormatCard { .. } => Operation::FormatCard,
         }
     }
 
+    /// Whether it changes no table, whatever it answers.
+    pub fn only_reads(&self) -> bool {
+        (Operation::Tally as usize..FORMATTING).contains(&(self.operation() as usize))
+    }
+
     /// The arguments in the paper's order.
     pub fn arguments(&self) -> Vec<u64> {
-        let listed = |f: &Facts| [f.cci, f.trigger, f.rights, f.permits, f.title_key, f.sti_key];
         match self {
-            Call::Register { content, facts } => [&[*content], &listed(facts)[..]].concat(),
-            Call::Record { content, entry, facts, hash } => [&[*content, *entry], &listed(facts)[..], &[*hash]].concat(),
+            Call::Register { content, facts } => [&[*content], &facts.listed()[..]].concat(),
+            Call::Record { content, entry, facts, hash } => [&[*content, *entry], &facts.listed()[..], &[*hash]].concat(),
             Call::CheckOut { content, entry } => vec![*content, *entry],
             Call::CheckIn { entry, f1 } => vec![*entry, *f1],
             Call::MoveOut { entry, hash, fillers } => [&[*entry, *hash], &fillers[..]].concat(),
             Call::MoveIn { content, entry, hash } => vec![*content, *entry, *hash],
             Call::Delete { entry, fillers } => [&[*entry], &fillers[..]].concat(),
-            Call::Tally { content } => vec![*content],
+            Call::Tally { content } | Call::InspectRow { content } | Call::InspectTitle { content } => vec![*content],
+            Call::InspectEntry { entry } => vec![*entry],
+            Call::FirstVacant { from } => vec![*from],
             Call::Sheet { room } => vec![*room],
             Call::FormatLedger { rows, application } => vec![*rows, u64::from(*application)],
             Call::FormatCard { application } => vec![u64::from(*application)],
@@ -104,6 +128,10 @@ impl Call {
             Operation::MoveIn => Call::MoveIn { content: a[0], entry: a[1], hash: a[2] },
             Operation::Delete => Call::Delete { entry: a[0], fillers: fillers(&a[1..]) },
             Operation::Tally => Call::Tally { content: a[0] },
+            Operation::InspectEntry => Call::InspectEntry { entry: a[0] },
+            Operation::InspectRow => Call::InspectRow { content: a[0] },
+            Operation::InspectTitle => Call::InspectTitle { content: a[0] },
+            Operation::FirstVacant => Call::FirstVacant { from: a[0] },
             Operation::Sheet => Call::Sheet { room: a[0] },
             Operation::FormatLedger => Call::FormatLedger { rows: a[0], application: a[1] as u16 },
             Operation::FormatCard => Call::FormatCard { application: a[0] as u16 },
@@ -137,14 +165,43 @@ pub fn entry_to_fill(call: &Call, tables: &Tables) -> Option<Entry> {
     }
 }
 
-/// What is written beside the tables: by a move in how many entries it read, by a tally its number, by a sheet its text and how
-/// many bytes of it are used.
+/// What is written beside the tables: numbers, and by a sheet its text and how many bytes of it are used.
 #[derive(Clone, Debug, PartialEq)]
 pub struct Results {
-    pub entries_read: u64,
-    pub tallied: u64,
+    pub numbers: Numbers,
     pub text: Vec<u8>,
     pub used: usize,
+}
+
+/// By a move in how many entries it read; by a tally the copies; and what an inspection tells of an entry, a row or a title, or which
+/// entry is the first vacant one. In memory they stand in this order, so that a number written beside its place is found in another.
+#[derive(Clone, Copy, Debug, PartialEq)]
+#[repr(C)]
+pub struct Numbers {
+    pub entries_read: u64,
+    pub copies: u64,
+    pub holders: u64,
+    pub kind: u64,
+    pub content: u64,
+    pub state: u64,
+    pub facts: [u64; 6],
+    pub vacant: u64,
+}
+
+impl Numbers {
+    /// All of them one number.
+    pub fn all(number: u64) -> Self {
+        Numbers {
+            entries_read: number,
+            copies: number,
+            holders: number,
+            kind: number,
+            content: number,
+            state: number,
+            facts: [number; 6],
+            vacant: number,
+        }
+    }
 }
 
 impl Results {
@@ -153,8 +210,7 @@ impl Results {
     pub fn before(call: &Call, number: u64) -> Self {
         let length = if matches!(call, Call::Sheet { .. }) { MOST_TEXT + 64 } else { 0 };
         Results {
-            entries_read: u64::MAX - number,
-            tallied: u64::MAX - number,
+            numbers: Numbers::all(u64::MAX - number),
             text: vec![number as u8; length],
             used: usize::MAX - number as usize,
         }
@@ -173,18 +229,23 @@ fn refuse_unless(condition: bool, number: u64) -> Tested<()> {
     if condition { Ok(()) } else { Err(number) }
 }
 
-/// Carries the call of this pair out on the tables and answers its number. A tally or sheet that is done also writes its results,
-/// and a move in whether it is done or not.
+/// Carries the call of this pair out on the tables and answers its number. A tally, inspection or sheet that is done also writes its
+/// results, and a move in whether it is done or not.
 pub fn perform(pair: Pair, call: &Call, tables: &mut Tables, results: &mut Results) -> u64 {
+    let numbers = &mut results.numbers;
     let tested = match *call {
         Call::Register { content, facts } => register(tables, content, facts),
         Call::Record { content, entry, facts, hash } => record(pair, tables, content, entry, facts, hash),
         Call::CheckOut { content, entry } => check_out(pair, tables, content, entry),
         Call::CheckIn { entry, f1 } => check_in(pair, tables, entry, f1),
         Call::MoveOut { entry, hash, fillers } => move_out(pair, tables, entry, hash, fillers),
-        Call::MoveIn { content, entry, hash } => move_in(pair, tables, content, entry, hash, &mut results.entries_read),
+        Call::MoveIn { content, entry, hash } => move_in(pair, tables, content, entry, hash, &mut numbers.entries_read),
         Call::Delete { entry, fillers } => delete(pair, tables, entry, fillers),
-        Call::Tally { content } => tally(pair, tables, content).map(|copies| results.tallied = copies),
+        Call::Tally { content } => tally(pair, tables, content).map(|copies| numbers.copies = copies),
+        Call::InspectEntry { entry } => inspect_entry(pair, tables, entry, numbers),
+        Call::InspectRow { content } => inspect_row(tables, content, numbers),
+        Call::InspectTitle { content } => inspect_title(pair, tables, content, numbers),
+        Call::FirstVacant { from } => first_vacant(pair, tables, from).map(|entry| numbers.vacant = entry),
         Call::Sheet { room } => sheet(pair, tables, results.room(room)).map(|used| results.used = used),
         Call::FormatLedger { rows, application } => format_ledger(tables, rows, application),
         Call::FormatCard { application } => format_card(pair, tables, application),
@@ -214,6 +275,12 @@ fn test_titles(pair: Pair, tables: &Tables) -> Tested<CardHead> {
 
 fn test_rules(pair: Pair, tables: &Tables) -> Tested<CardHead> {
     tables.rule_head(pair).ok_or(9)
+}
+
+/// 8 and 9 of a call that takes a card and no ledger, so that the application number is not asked.
+fn test_card(pair: Pair, tables: &Tables) -> Tested<()> {
+    test_titles(pair, tables)?;
+    test_rules(pair, tables).map(|_| ())
 }
 
 /// 7, 8 and 9 of a call that takes ledger and card.
@@ -381,9 +448,49 @@ fn delete(pair: Pair, tables: &mut Tables, entry: u64, fillers: [u64; 4]) -> Tes
 
 fn tally(pair: Pair, tables: &Tables, content: u64) -> Tested<u64> {
     test_content(content)?;
-    test_titles(pair, tables)?;
-    test_rules(pair, tables)?;
+    test_card(pair, tables)?;
     Ok(tables.copies(content))
+}
+
+/// Of a copy its own two facts: the others are its row's, and its rule half, which is not usable, says nothing.
+fn inspect_entry(pair: Pair, tables: &Tables, entry: u64, numbers: &mut Numbers) -> Tested<()> {
+    use EntryKind::{Copy, Free, Full, Spent, Torn};
+    test_entry(entry)?;
+    test_card(pair, tables)?;
+    let found = tables.entry(entry).ok_or(5u64)?;
+    let facts = match found.kind() {
+        Full => found.facts(),
+        Copy => Facts { cci: found.title.cci, title_key: found.title.title_key, ..Facts::NONE },
+        Free | Torn | Spent => Facts::NONE,
+    };
+    numbers.kind = found.kind() as u64;
+    numbers.content = if matches!(found.kind(), Copy | Full | Spent) { found.content_id() } else { 0 };
+    numbers.facts = facts.listed();
+    Ok(())
+}
+
+fn inspect_row(tables: &Tables, content: u64, numbers: &mut Numbers) -> Tested<()> {
+    test_content(content)?;
+    test_ledger(tables)?;
+    let row = tables.row(content).ok_or(11u64)?;
+    numbers.state = row.state() as u64;
+    numbers.facts = if row.state() == RowState::Here { row.facts.listed() } else { [0; 6] };
+    Ok(())
+}
+
+fn inspect_title(pair: Pair, tables: &Tables, content: u64, numbers: &mut Numbers) -> Tested<()> {
+    test_content(content)?;
+    test_tables(pair, tables)?;
+    tables.row(content).ok_or(11u64)?;
+    (numbers.holders, numbers.copies) = (tables.holders(content), tables.copies(content));
+    Ok(())
+}
+
+/// "0 where there is none from there on"
+fn first_vacant(pair: Pair, tables: &Tables, from: u64) -> Tested<u64> {
+    test_entry(from)?;
+    test_card(pair, tables)?;
+    Ok(tables.first_vacant(from).unwrap_or(0))
 }
 
 fn sheet(pair: Pair, tables: &Tables, text: &mut [u8]) -> Tested<usize> {

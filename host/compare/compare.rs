@@ -3,9 +3,10 @@
 
 use std::fmt::Debug;
 
-use crate::calls::{self, Call, Operation, Results, FORMATTING, KINDS, OPERATIONS};
+use crate::calls::{self, Call, Numbers, Operation, Results, FORMATTING, KINDS, OPERATIONS};
 use crate::history::Titles;
 use crate::inputs::STALE_IDS;
+use crate::inspections::Inspected;
 use crate::preview::{self, Basket, Previewed};
 use crate::requests::{self, Request};
 use crate::tables::{EntryKind, Pair, Tables, LAST_ENTRY, PAIRS};
@@ -27,7 +28,7 @@ pub struct Run {
     pub seed: u64,
     pub part: &'static str,
     pub round: u64,
-    /// Calls of the other ten operations, as requests too, sheets, previews, and requests read and written.
+    /// Calls of the other fourteen operations, as requests too, sheets, previews, and requests read and written.
     pub calls: u64,
     pub sheets: u64,
     pub previews: u64,
@@ -47,6 +48,8 @@ struct OfPair {
     operations: [[u64; ANSWERS]; OPERATIONS.len()],
     /// Of these, those answered 8 or 9 for a table that is right for the other pair.
     other_pair: [[u64; ANSWERS]; OPERATIONS.len()],
+    /// Those on a ledger and a card that are right, but for their application numbers, which differ.
+    other_application: [[u64; ANSWERS]; OPERATIONS.len()],
     /// And those whose fillers would leave the STI key of a full entry, and no other key.
     sti_key_left: [[u64; ANSWERS]; OPERATIONS.len()],
     /// Those that are to put a title to a spent entry.
@@ -54,27 +57,29 @@ struct OfPair {
     /// And to an entry with flag 0 and one of `STALE_IDS` in its title half, without and with a usable rule half.
     at_stale: [[u64; 2]; STALE_IDS.len()],
     /// Move ins that found a copy, by the entries that they read.
-    read_to_copy: Reads,
+    read_to_copy: PerEntry,
+    inspected: Inspected,
     /// Calls that were requests in numbers, and those in baskets that were previewed.
     performed: OfKinds,
     in_baskets: OfKinds,
     previews: [u64; ANSWERS],
 }
 
-/// How often a move in read so many entries, up to the first copy.
+/// How often each entry number came up, and 0.
 #[derive(Clone, Copy)]
-struct Reads([u64; 1 + LAST_ENTRY as usize]);
+pub struct PerEntry(pub [u64; 1 + LAST_ENTRY as usize]);
 
-impl Default for Reads {
+impl Default for PerEntry {
     fn default() -> Self {
-        Reads([0; 1 + LAST_ENTRY as usize])
+        PerEntry([0; 1 + LAST_ENTRY as usize])
     }
 }
 
 impl OfPair {
-    /// Each operation that tests heads met a title table, and a rule table, of the other pair; a move out and a delete that would
-    /// leave the STI key were answered 16 or, for pictures, done; each call that puts a title to an entry was done at a spent one;
-    /// a move in found the first copy in each entry; and demand 3 was tested, on sheets too.
+    /// Each operation that tests heads met a title table, and a rule table, of the other pair, and a card of another application,
+    /// which was refused where a ledger is lent too; a move out and a delete that would leave the STI key were answered 16 or, for
+    /// pictures, done; each call that puts a title to an entry was done at a spent one; a move in found the first copy in each
+    /// entry; inspections told all that they can tell; and demand 3 was tested, on sheets and by inspection too.
     fn complete(&self, pair: Pair) -> Result<(), String> {
         for (operation, name, allowed) in &OPERATIONS[..FORMATTING] {
             let met = |counts: &[[u64; ANSWERS]], answer: usize| counts[*operation as usize][answer] > 0;
@@ -82,6 +87,10 @@ impl OfPair {
                 if !met(&self.other_pair, answer as usize) {
                     return Err(format!("{pair:?} {name}: no table of the other pair was answered {answer}"));
                 }
+            }
+            let of_application = if allowed.contains(&7) { 9 } else { 0 };
+            if allowed.contains(&9) && !met(&self.other_application, of_application) {
+                return Err(format!("{pair:?} {name}: no card of another application was answered {of_application}"));
             }
             let wipes_full = matches!(operation, Operation::MoveOut | Operation::Delete);
             if wipes_full && !met(&self.sti_key_left, if pair == Pair::Audio { 16 } else { 0 }) {
@@ -92,6 +101,7 @@ impl OfPair {
                 return Err(format!("{pair:?} {name}: never done at a spent entry"));
             }
         }
+        self.inspected.complete(pair)?;
         self.titles_tested(pair)
     }
 
@@ -101,6 +111,9 @@ impl OfPair {
         }
         if self.titles.with_holder == 0 || self.titles.deleted == 0 {
             return Err(format!("{pair:?}: demand 3 was not tested"));
+        }
+        if self.titles.inspected.contains(&0) {
+            return Err(format!("{pair:?}: titles inspected after lists of calls: {:?}", self.titles.inspected));
         }
         if let Some(cci) = [0, 2, 3].into_iter().find(|cci| self.titles.copies[*cci] == 0) {
             return Err(format!("{pair:?}: no copy of a title granted with CCI {cci} was tested"));
@@ -248,7 +261,7 @@ impl Run {
         }
         print_line("kinds read", &self.kinds_read);
         for pair in PAIRS {
-            let OfPair { titles, other_pair, sti_key_left, at_spent, at_stale, performed, in_baskets, .. } =
+            let OfPair { titles, other_pair, sti_key_left, at_spent, at_stale, performed, in_baskets, inspected, .. } =
                 &self.pairs[pair as usize];
             print_line(&format!("{pair:?} requests performed"), &OfPair::together(performed));
             print_line(&format!("{pair:?} requests in baskets"), &OfPair::together(in_baskets));
@@ -259,11 +272,14 @@ impl Run {
                 let counts = STALE_IDS.iter().zip(at_stale).map(|(id, counts)| format!("{id}: {}", counts[number]));
                 println!("{pair:?} to flag 0 beside {rule_half}, by ID  {}", counts.collect::<Vec<_>>().join("  "));
             }
-            let Titles { with_holder, deleted, copies, lines, lines_after_deletes, spent } = titles;
+            inspected.print(pair);
+            let Titles { with_holder, deleted, copies, lines, lines_after_deletes, spent, inspected } = titles;
             println!("{pair:?}: demand 3 tested of {with_holder} titles with a holder and {deleted} whose holder was deleted");
             print_line(&format!("{pair:?} copies by CCI granted"), copies);
             println!("{pair:?}: {lines} lines of sheets add up to the grant, {lines_after_deletes} of them with copies deleted");
             println!("{pair:?}: {spent} spent entries are those from which the calls took a title");
+            let [none, held, lent] = inspected;
+            println!("{pair:?}: titles inspected after them: {none} deleted, {held} with a holder alone, {lent} with copies too");
         }
         let Run { calls, sheets, previews, requests, .. } = self;
         println!("{calls} calls, {sheets} sheets, {previews} previews and {requests} requests compared");
@@ -289,7 +305,7 @@ impl Run {
 }
 
 /// How often each number came up.
-fn print_line(name: &str, counts: &[u64]) {
+pub fn print_line(name: &str, counts: &[u64]) {
     print!("{name:21}");
     let came_up = counts.iter().enumerate().filter(|(_, count)| **count > 0);
     came_up.for_each(|(number, count)| print!("  {number}: {count}"));
@@ -332,7 +348,7 @@ pub struct Sides {
 
 impl Sides {
     pub fn new(pair: Pair, tables: &Tables) -> Self {
-        let results = Results { entries_read: 0, tallied: 0, text: Vec::new(), used: 0 };
+        let results = Results { numbers: Numbers::all(0), text: Vec::new(), used: 0 };
         Sides {
             pair,
             as_requests: false,
@@ -421,6 +437,11 @@ impl Sides {
         std::str::from_utf8(text.get(..*used)?).ok()
     }
 
+    /// The numbers that the last call wrote, where it was no request.
+    pub fn told(&self) -> Numbers {
+        self.library_results.numbers
+    }
+
     fn note(&self, run: &mut Run, call: &Call, answer: usize, rare: &Rare) {
         let came_up = &mut run.pairs[self.pair as usize];
         let operation = call.operation() as usize;
@@ -429,21 +450,30 @@ impl Sides {
         let of_other = (answer == 8 && self.library.title_head(other).is_some())
             || (answer == 9 && self.library.rule_head(other).is_some());
         came_up.other_pair[operation][answer] += u64::from(of_other);
+        came_up.other_application[operation][answer] += u64::from(self.of_two_applications());
         came_up.sti_key_left[operation][answer] += u64::from(rare.leaves_sti_key);
         came_up.at_spent[operation][answer] += u64::from(rare.to_spent);
         if let Some([id, rule_half]) = rare.to_stale {
             came_up.at_stale[id][rule_half] += 1;
         }
         if answer == 14 {
-            came_up.read_to_copy.0[self.library_results.entries_read as usize] += 1;
+            came_up.read_to_copy.0[self.told().entries_read as usize] += 1;
         }
+        if answer == 0 {
+            came_up.inspected.note(call, &self.library, &self.told());
+        }
+    }
+
+    /// Whether nothing is wrong with ledger and card but that they do not belong together.
+    fn of_two_applications(&self) -> bool {
+        let heads = (self.library.ledger_head(), self.library.title_head(self.pair), self.library.rule_head(self.pair));
+        matches!(heads, (Some(ledger), Some(_), Some(rules)) if ledger.application != rules.application)
     }
 
     fn first_difference(&self) -> Option<String> {
         let (written, wanted) = (&self.library_results, &self.expected_results);
-        number_difference("entries read", written.entries_read, wanted.entries_read)
-            .or_else(|| number_difference("tally", written.tallied, wanted.tallied))
-            .or_else(|| number_difference("used", written.used as u64, wanted.used as u64))
+        value_difference("numbers", &written.numbers, &wanted.numbers)
+            .or_else(|| value_difference("used", &written.used, &wanted.used))
             .or_else(|| difference("text", &written.text, &wanted.text))
             .or_else(|| tables_difference(&self.library, &self.expected))
     }
@@ -460,14 +490,12 @@ fn tables_difference(library: &Tables, expected: &Tables) -> Option<String> {
 }
 
 fn previewed_difference(library: &Previewed, expected: &Previewed) -> Option<String> {
-    let (written, wanted) = (library.answers, expected.answers);
-    let answers = (written != wanted).then(|| format!("answers: {written:?} in the library, expected {wanted:?}"));
     let of_scratch = || tables_difference(&library.scratch, &expected.scratch).map(|what| format!("scratch {what}"));
-    answers.or_else(of_scratch)
+    value_difference("answers", &library.answers, &expected.answers).or_else(of_scratch)
 }
 
-fn number_difference(what: &str, library: u64, expected: u64) -> Option<String> {
-    (library != expected).then(|| format!("{what}: {library} in the library, expected {expected}"))
+fn value_difference<T: PartialEq + Debug>(what: &str, library: &T, expected: &T) -> Option<String> {
+    (library != expected).then(|| format!("{what}: {library:?} in the library, expected {expected:?}"))
 }
 
 fn difference(buffer: &str, library: &[u8], expected: &[u8]) -> Option<String> {

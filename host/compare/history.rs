@@ -37,7 +37,8 @@ pub struct Counts {
 
 /// How many granted titles were tested: those that must have a holder, and those whose holder was deleted. How many copies were held
 /// to their title's CCI, by that CCI. How many lines of sheets were held to a grant of at most 14 permits, and of these how many
-/// after copies of the title were deleted. And how many entries were spent.
+/// after copies of the title were deleted. How many entries were spent. And how many titles were inspected: those deleted, those with a
+/// holder and no copy, and those with copies.
 #[derive(Clone, Copy, Default)]
 pub struct Titles {
     pub with_holder: u64,
@@ -46,6 +47,7 @@ pub struct Titles {
     pub lines: u64,
     pub lines_after_deletes: u64,
     pub spent: u64,
+    pub inspected: [u64; 3],
 }
 
 impl Titles {
@@ -56,6 +58,7 @@ impl Titles {
         self.lines += more.lines;
         self.lines_after_deletes += more.lines_after_deletes;
         self.spent += more.spent;
+        self.inspected.iter_mut().zip(more.inspected).for_each(|(sum, titles)| *sum += titles);
     }
 }
 
@@ -92,7 +95,8 @@ impl Counts {
                 Some(LastDone::Copy(_)) => self.title_taken_from(entry)?.copies_deleted += 1,
                 _ => self.title_taken_from(entry)?.holders_deleted += 1,
             },
-            Call::Tally { .. } | Call::Sheet { .. } | Call::FormatLedger { .. } | Call::FormatCard { .. } => (),
+            Call::Tally { .. } | Call::InspectEntry { .. } | Call::InspectRow { .. } | Call::InspectTitle { .. } => (),
+            Call::FirstVacant { .. } | Call::Sheet { .. } | Call::FormatLedger { .. } | Call::FormatCard { .. } => (),
         }
         Ok(())
     }
@@ -133,6 +137,13 @@ impl Counts {
         let spent = self.check_entries(tables)?;
         tested.spent += spent;
         sheet.map_or(Ok(()), |text| self.check_sheet(&standings, spent, text, tested))
+    }
+
+    /// How many holders and how many copies each title granted has, by the calls and their answers alone; the lowest title first.
+    pub fn holders_and_copies(&self) -> Vec<(u64, [u64; 2])> {
+        let mut all: Vec<_> = self.titles.iter().map(|(content, title)| (*content, title.holders_and_copies())).collect();
+        all.sort();
+        all
     }
 
     /// "Customers want to see which entry once had which loan": every entry has the kind and content ID that the list of calls says
@@ -201,6 +212,10 @@ impl Title {
         equal("copies, check-ins and copies deleted", accounted, self.check_outs)?;
         account("permits", granted.permits, facts.permits, copies + self.copies_deleted)?;
         account("move rights", granted.rights, facts.rights, self.moves)
+    }
+
+    fn holders_and_copies(&self) -> [u64; 2] {
+        if self.holders_deleted > 0 { [0, 0] } else { [1, self.check_outs - self.check_ins - self.copies_deleted] }
     }
 
     fn check_line(&self, line: &Line, tested: &mut Titles) -> Result<(), String> {

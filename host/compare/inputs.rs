@@ -176,6 +176,7 @@ pub fn likely_call(random: &mut Random, tables: &Tables, named: &Named, operatio
         Operation::CheckIn => entry_of_kind(random, tables, named, &[Copy]),
         Operation::MoveOut => entry_of_kind(random, tables, named, &[Full]),
         Operation::Delete => entry_of_kind(random, tables, named, &[Copy, Full]),
+        Operation::InspectEntry | Operation::FirstVacant => random.pick(&named.entries),
         _ => entry_of_kind(random, tables, named, &VACANT),
     };
     let found = tables.entry(entry);
@@ -192,6 +193,10 @@ pub fn likely_call(random: &mut Random, tables: &Tables, named: &Named, operatio
         Operation::MoveIn => Call::MoveIn { content, entry, hash: random.number() },
         Operation::Delete => Call::Delete { entry, fillers: fillers(random, found) },
         Operation::Tally => Call::Tally { content },
+        Operation::InspectEntry => Call::InspectEntry { entry },
+        Operation::InspectRow => Call::InspectRow { content },
+        Operation::InspectTitle => Call::InspectTitle { content },
+        Operation::FirstVacant => Call::FirstVacant { from: entry },
         Operation::Sheet => Call::Sheet { room: room_for_sheet(random, tables) },
         Operation::FormatLedger => {
             Call::FormatLedger { rows: (tables.ledger.len() as u64 / 24).saturating_sub(1), application }
@@ -212,7 +217,8 @@ fn fits(tables: &Tables, call: &Call) -> bool {
         Call::MoveOut { entry, .. } => entry_is(entry, &[EntryKind::Full]),
         Call::MoveIn { content, entry, .. } => row_is(content, RowState::Here) && entry_is(entry, &VACANT),
         Call::Delete { entry, .. } => !entry_is(entry, &VACANT),
-        Call::Tally { .. } | Call::Sheet { .. } | Call::FormatLedger { .. } | Call::FormatCard { .. } => true,
+        Call::Tally { .. } | Call::InspectEntry { .. } | Call::InspectRow { .. } | Call::InspectTitle { .. } => true,
+        Call::FirstVacant { .. } | Call::Sheet { .. } | Call::FormatLedger { .. } | Call::FormatCard { .. } => true,
     }
 }
 
@@ -343,7 +349,8 @@ fn random_row(random: &mut Random) -> [u8; ROW_SIZE] {
     bytes
 }
 
-fn put_random_entry(random: &mut Random, tables: &mut Tables, named: &Named, entry: u64) {
+/// Halves at this entry, of all kinds, of named titles mostly.
+pub fn put_random_entry(random: &mut Random, tables: &mut Tables, named: &Named, entry: u64) {
     let facts = facts(random);
     let content = random.pick(&named.contents);
     let mut title = TitleHalf::written(&facts, content);

@@ -1,5 +1,5 @@
-//! Compares the library with an implementation of its own of document 01 and of requests W1 to W7 of document 02, by fields
-//! and structures, on many inputs, with tables of either pair.
+//! Compares the library with an implementation of its own of document 01, of requests W1 to W7 of document 02 and of the inspection of
+//! music_counter.h, by fields and structures, on many inputs, with tables of either pair.
 //!
 //! compare calls COUNT SEED: at least so many calls. compare seconds N SEED: round after round, each with a seed of its
 //! own, until the time is over. Its exit code is 1 where anything differs, which is then printed, or where an answer that
@@ -10,6 +10,7 @@ mod calls;
 mod compare;
 mod history;
 mod inputs;
+mod inspections;
 mod parts;
 mod preview;
 mod request_bytes;
@@ -34,6 +35,8 @@ fn all_values(run: &mut Run) -> Result<(), String> {
     PAIRS.into_iter().try_for_each(|pair| parts::every_byte(run, pair))?;
     PAIRS.into_iter().try_for_each(|pair| parts::full_card(run, pair))?;
     PAIRS.into_iter().try_for_each(|pair| parts::every_first_copy(run, pair))?;
+    PAIRS.into_iter().try_for_each(|pair| inspections::every_first_vacant(run, pair))?;
+    PAIRS.into_iter().try_for_each(|pair| inspections::every_number_of_holders(run, pair))?;
     PAIRS.into_iter().try_for_each(|pair| baskets::counts_and_lengths(run, pair))?;
     (0..10).try_for_each(|round| parts::arguments_at_limits(run, round))?;
     (0..6).try_for_each(|round| parts::formats(run, round))

@@ -2,16 +2,17 @@
 //! formatting.
 
 use crate::baskets;
-use crate::calls::{self, Call, Operation, Results, FORMATTING, OPERATIONS};
+use crate::calls::{self, Call, Operation, Results, FORMATTING, INSPECTIONS, OPERATIONS};
 use crate::compare::{Run, Sides};
 use crate::history::{Counts, Titles};
 use crate::inputs::{self, Named, Random, CUT_OFF, LIMITS};
+use crate::inspections;
 use crate::sheet::MOST_TEXT;
 use crate::tables::{Facts, Pair, Row, RuleHalf, Tables, TitleHalf, LAST_ENTRY, PAIRS, UNLIMITED};
 use crate::tables::{ROW_SIZE, RULE_HALF_SIZE, RULE_TABLE_SIZE, TITLE_HALF_SIZE, TITLE_TABLE_SIZE};
 
 /// How often each operation comes in a history. Deletes come apart, since titles are to be lent and moved before they go.
-const OFTEN: [(Operation, usize); 8] = [
+const OFTEN: [(Operation, usize); 12] = [
     (Operation::Register, 2),
     (Operation::Record, 2),
     (Operation::CheckOut, 5),
@@ -19,6 +20,10 @@ const OFTEN: [(Operation, usize); 8] = [
     (Operation::MoveOut, 4),
     (Operation::MoveIn, 4),
     (Operation::Tally, 1),
+    (Operation::InspectEntry, 1),
+    (Operation::InspectRow, 1),
+    (Operation::InspectTitle, 1),
+    (Operation::FirstVacant, 1),
     (Operation::Sheet, 1),
 ];
 
@@ -67,10 +72,10 @@ pub fn history(run: &mut Run, round: u64) -> Result<(), String> {
             sides.call(run, &SHEET)?;
         }
         if number % 100 == 0 || random.chance(1) {
-            check(run, &mut sides, &counts)?;
+            check(run, &mut random, &mut sides, &counts, &named)?;
         }
     }
-    check(run, &mut sides, &counts)
+    check(run, &mut random, &mut sides, &counts, &named)
 }
 
 fn noted_call(run: &mut Run, sides: &mut Sides, counts: &mut Counts, call: &Call) -> Result<(), String> {
@@ -78,11 +83,17 @@ fn noted_call(run: &mut Run, sides: &mut Sides, counts: &mut Counts, call: &Call
     counts.note(call, answer).map_err(|what| run.found(what))
 }
 
-/// Demand 3 on the bytes and, where ledger and card are of one application, on their sheet.
-fn check(run: &mut Run, sides: &mut Sides, counts: &Counts) -> Result<(), String> {
+/// Demand 3 on the bytes and, where ledger and card are of one application, on their sheet and by inspection.
+fn check(
+    run: &mut Run, random: &mut Random, sides: &mut Sides, counts: &Counts, named: &Named,
+) -> Result<(), String> {
     let mut titles = Titles::default();
-    sides.call(run, &SHEET)?;
+    let of_one_application = sides.call(run, &SHEET)? == 0;
     counts.check(&sides.library, sides.sheet(), &mut titles).map_err(|what| run.found(what))?;
+    if of_one_application {
+        inspections::of_titles(run, sides, counts, &mut titles)?;
+        inspections::of_vacant(run, random, sides, &named.contents)?;
+    }
     run.note_titles(sides.pair, titles);
     Ok(())
 }
@@ -97,22 +108,21 @@ pub fn full_card(run: &mut Run, pair: Pair) -> Result<(), String> {
     let mut counts = Counts::default();
     let grant = Call::Register { content, facts };
     let lend = (1..=LAST_ENTRY).map(|entry| Call::CheckOut { content, entry });
-    let tally = Call::Tally { content };
     let move_in = Call::MoveIn { content, entry: random.one_to(LAST_ENTRY), hash: 0 };
-    for call in [grant].into_iter().chain(lend).chain([tally, move_in]) {
+    let looks = [Call::Tally { content }, Call::InspectTitle { content }, Call::FirstVacant { from: 1 }, SHEET];
+    for call in [grant].into_iter().chain(lend).chain([move_in]) {
         noted_call(run, &mut sides, &mut counts, &call)?;
-        sides.call(run, &SHEET)?;
+        looks.iter().try_for_each(|look| sides.call(run, look).map(|_| ()))?;
     }
-    check(run, &mut sides, &counts)?;
+    check(run, &mut random, &mut sides, &counts, &all(5))?;
     for entry in 1..=LAST_ENTRY {
         let fillers = [(); 4].map(|()| random.number());
         let delete = Call::Delete { entry, fillers };
         let back = if random.chance(50) { delete } else { Call::CheckIn { entry, f1: fillers[0] } };
         noted_call(run, &mut sides, &mut counts, &back)?;
-        noted_call(run, &mut sides, &mut counts, &tally)?;
-        sides.call(run, &SHEET)?;
+        looks.iter().try_for_each(|look| sides.call(run, look).map(|_| ()))?;
     }
-    check(run, &mut sides, &counts)
+    check(run, &mut random, &mut sides, &counts, &all(5))
 }
 
 /// A move in, to a free entry or a spent one, with the first copy in each entry. Before it are entries that have been copies of the
@@ -195,8 +205,8 @@ pub fn varied(run: &mut Run, round: u64) -> Result<(), String> {
 const CONTENT: u64 = 3;
 const ROWS: u64 = 5;
 
-/// Tables in which some calls are done, and those calls. One title and one entry are in them; another title was, where the entry is
-/// spent.
+/// Tables in which some calls are done, and those calls, with inspections behind them. One title and one entry are in them; another
+/// title was, where the entry is spent.
 struct Situation {
     pair: Pair,
     tables: Tables,
@@ -214,7 +224,8 @@ fn situation(random: &mut Random, pair: Pair, row: Row, halves: Halves, operatio
     halves.0.iter().for_each(|half| tables.put_title_half(entry, half));
     halves.1.iter().for_each(|half| tables.put_rule_half(entry, half));
     let named = Named { contents: vec![CONTENT], entries: vec![entry] };
-    let calls = operations.iter().map(|operation| done_call(random, pair, &tables, &named, *operation)).collect();
+    let operations = operations.iter().chain(&INSPECTIONS);
+    let calls = operations.map(|operation| done_call(random, pair, &tables, &named, *operation)).collect();
     Situation { pair, tables, entry, calls }
 }
 
@@ -269,7 +280,7 @@ fn each_call(run: &mut Run, sides: &mut Sides, tables: &Tables, calls: &[Call]) 
         if changed {
             sides.set(tables);
         }
-        changed = sides.call(run, call)? == 0 && !matches!(call, Call::Tally { .. } | Call::Sheet { .. });
+        changed = sides.call(run, call)? == 0 && !call.only_reads();
     }
     Ok(())
 }

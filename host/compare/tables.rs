@@ -40,6 +40,13 @@ pub struct Facts {
 }
 
 impl Facts {
+    pub const NONE: Facts = Facts { cci: 0, trigger: 0, rights: 0, permits: 0, title_key: 0, sti_key: 0 };
+
+    /// In the order in which a register takes them.
+    pub fn listed(&self) -> [u64; 6] {
+        [self.cci, self.trigger, self.rights, self.permits, self.title_key, self.sti_key]
+    }
+
     pub fn in_range(&self) -> bool {
         [0, 2, 3].contains(&self.cci)
             && self.trigger <= 1
@@ -200,13 +207,14 @@ impl RuleHalf {
     }
 }
 
+/// The kinds of an entry, with the numbers by which an inspection tells them.
 #[derive(Clone, Copy, Debug, PartialEq)]
 pub enum EntryKind {
-    Free,
-    Copy,
-    Full,
-    Torn,
-    Spent,
+    Free = 0,
+    Copy = 1,
+    Full = 2,
+    Torn = 3,
+    Spent = 4,
 }
 
 /// "Calls that needed a free entry accept free or spent"
@@ -250,13 +258,14 @@ impl Entry {
     }
 }
 
+/// The states of a row, with the numbers by which an inspection tells them.
 #[derive(Clone, Copy, Debug, PartialEq)]
 pub enum RowState {
-    Empty,
-    Here,
-    Away,
-    Gone,
-    NoState,
+    Empty = 0,
+    Here = 1,
+    Away = 2,
+    Gone = 3,
+    NoState = 4,
 }
 
 /// A row of the ledger, with the bytes that are written as zero and not looked at.
@@ -321,8 +330,7 @@ impl Row {
     }
 
     fn without_facts(first_byte: u8) -> Self {
-        let facts = Facts { cci: 0, trigger: 0, rights: 0, permits: 0, title_key: 0, sti_key: 0 };
-        Row::written(first_byte, facts)
+        Row::written(first_byte, Facts::NONE)
     }
 
     pub fn state(&self) -> RowState {
@@ -588,6 +596,18 @@ impl Tables {
     /// The first entry that is a copy with this content ID.
     pub fn first_copy(&self, content_id: u64) -> Option<u64> {
         self.copies_of(content_id).next()
+    }
+
+    /// The number of holders of this content ID: its row, where it is here, and its full entries.
+    pub fn holders(&self, content_id: u64) -> u64 {
+        let here = self.row(content_id).is_some_and(|row| row.state() == RowState::Here);
+        let full = self.entries_with_title().filter(|(_, entry)| entry.kind() == EntryKind::Full);
+        u64::from(here) + full.filter(|(_, entry)| entry.content_id() == content_id).count() as u64
+    }
+
+    /// The first entry, from this one on, that is free or spent.
+    pub fn first_vacant(&self, from: u64) -> Option<u64> {
+        (from..=LAST_ENTRY).find(|j| self.entry(*j).is_some_and(|entry| VACANT.contains(&entry.kind())))
     }
 
     /// The number of spent entries.

@@ -1,6 +1,6 @@
 //! The library under test, by its C interface (include/music_counter.h).
 
-use crate::calls::{Call, Results};
+use crate::calls::{Call, Numbers, Results};
 use crate::preview::{Basket, Previewed};
 use crate::requests::Request;
 use crate::tables::{Pair, Tables};
@@ -42,6 +42,20 @@ extern "C" {
     fn counter_tally(
         pair: bool, titles: *const u8, titles_len: usize, rules: *const u8, rules_len: usize, content: u64, copies: *mut u64,
     ) -> u64;
+    fn counter_inspect_entry(
+        pair: bool, titles: *const u8, titles_len: usize, rules: *const u8, rules_len: usize, entry: u64, kind: *mut u64,
+        content: *mut u64, facts: *mut u64,
+    ) -> u64;
+    fn counter_inspect_row(
+        ledger: *const u8, ledger_len: usize, content: u64, state: *mut u64, facts: *mut u64,
+    ) -> u64;
+    fn counter_inspect_title(
+        pair: bool, ledger: *const u8, ledger_len: usize, titles: *const u8, titles_len: usize, rules: *const u8,
+        rules_len: usize, content: u64, holders: *mut u64, copies: *mut u64,
+    ) -> u64;
+    fn counter_first_vacant(
+        pair: bool, titles: *const u8, titles_len: usize, rules: *const u8, rules_len: usize, from: u64, entry: *mut u64,
+    ) -> u64;
     fn counter_sheet(
         pair: bool, ledger: *const u8, ledger_len: usize, titles: *const u8, titles_len: usize, rules: *const u8,
         rules_len: usize, text: *mut u8, text_len: usize, used: *mut usize,
@@ -64,12 +78,13 @@ extern "C" {
     ) -> u64;
 }
 
-/// Carries the call of this pair out on the tables. A move in, a tally or a sheet may write its results.
+/// Carries the call of this pair out on the tables. A move in, a tally, an inspection or a sheet may write its results.
 pub fn perform(pair: Pair, call: &Call, tables: &mut Tables, results: &mut Results) -> u64 {
     let pair = pair == Pair::Picture;
     let (ledger, ledger_len) = (tables.ledger.as_mut_ptr(), tables.ledger.len());
     let (titles, titles_len) = (tables.titles.as_mut_ptr(), tables.titles.len());
     let (rules, rules_len) = (tables.rules.as_mut_ptr(), tables.rules.len());
+    let numbers = &mut results.numbers;
     // The pointers and lengths are those of three vectors, none of them null, that nobody else uses meanwhile.
     unsafe {
         match *call {
@@ -91,17 +106,44 @@ pub fn perform(pair: Pair, call: &Call, tables: &mut Tables, results: &mut Resul
             ),
             Call::MoveIn { content, entry, hash } => counter_move_in(
                 pair, ledger, ledger_len, titles, titles_len, rules, rules_len, content, entry, hash,
-                &mut results.entries_read,
+                &mut numbers.entries_read,
             ),
             Call::Delete { entry, fillers: [f1, f2, f3, f4] } => {
                 counter_delete(pair, ledger, ledger_len, titles, titles_len, rules, rules_len, entry, f1, f2, f3, f4)
             }
-            Call::Tally { content } => {
-                counter_tally(pair, titles, titles_len, rules, rules_len, content, &mut results.tallied)
+            Call::Tally { .. } | Call::InspectEntry { .. } | Call::InspectRow { .. } | Call::InspectTitle { .. } => {
+                inspect(pair, call, tables, numbers)
             }
+            Call::FirstVacant { .. } => inspect(pair, call, tables, numbers),
             Call::Sheet { room } => sheet(pair, tables, results, room),
             Call::FormatLedger { rows, application } => counter_format_ledger(ledger, ledger_len, rows, application),
             Call::FormatCard { application } => counter_format_card(pair, titles, titles_len, rules, rules_len, application),
+        }
+    }
+}
+
+/// What only reads the tables and writes numbers. A refusal leaves these as they are.
+fn inspect(pair: bool, call: &Call, tables: &Tables, numbers: &mut Numbers) -> u64 {
+    let (ledger, ledger_len) = (tables.ledger.as_ptr(), tables.ledger.len());
+    let (titles, titles_len) = (tables.titles.as_ptr(), tables.titles.len());
+    let (rules, rules_len) = (tables.rules.as_ptr(), tables.rules.len());
+    let Numbers { copies, holders, kind, content: id, state, facts, vacant, .. } = numbers;
+    let facts = facts.as_mut_ptr();
+    // Three vectors that are only read, and numbers, of which six are facts.
+    unsafe {
+        match *call {
+            Call::Tally { content } => counter_tally(pair, titles, titles_len, rules, rules_len, content, copies),
+            Call::InspectEntry { entry } => {
+                counter_inspect_entry(pair, titles, titles_len, rules, rules_len, entry, kind, id, facts)
+            }
+            Call::InspectRow { content } => counter_inspect_row(ledger, ledger_len, content, state, facts),
+            Call::InspectTitle { content } => counter_inspect_title(
+                pair, ledger, ledger_len, titles, titles_len, rules, rules_len, content, holders, copies,
+            ),
+            Call::FirstVacant { from } => {
+                counter_first_vacant(pair, titles, titles_len, rules, rules_len, from, vacant)
+            }
+            _ => unreachable!("{call:?} does more"),
         }
     }
 }

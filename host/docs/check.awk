@@ -42,12 +42,12 @@ function take_in(file,    text, line, words, count, i, item, words_before) {
 }
 
 # A type of the source that a definition imports: `use Rattle.CRATE.specs.declared.MODULE.TYPE.{TYPE}`, or its variants,
-# `.. .TYPE.TheVariants.{VARIANT, ..}`; or constants, `.. .TheConstants.{NAME, ..}`.
+# `.. .TYPE.TheVariants.{VARIANT, ..}`; or constants, `.. .TheConstants.{NAME, ..}`. One of the crate's root has no MODULE.
 function take_type(file, text,    parts, crate, names, i) {
     split(text, parts, ".specs.declared.")
     crate = parts[1]
     sub(/^use Rattle\./, "", crate)
-    split(parts[2], parts, ".")
+    split((parts[2] ~ /^[A-Z]/ ? "lib." : "") parts[2], parts, ".")
     if (parts[2] != "TheConstants") imported["crates/" crate "/src/" parts[1] ".rt", parts[2]] = file
     else for (i = words_of(parts[3], names); i > 0; i--) imported["crates/" crate "/src/" parts[1] ".rt", names[i]] = file
 }

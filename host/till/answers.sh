@@ -1,17 +1,26 @@
 #!/usr/bin/env bash
-# Holds what comments say of the answers of the seven calls, formatting, tally, the sheet and the preview to the definitions: in
-# the header "Answers 4, 5; 10 where ..", in the source "// Answers 0, or 4, 5 or 10 with .." over a C function and "// Done, or
+# Holds what comments say of the answers of the seven calls, formatting, tally, inspection, the sheet and the preview to the
+# definitions: in the header "Answers 4, 5; 10 where ..", in the source "// Answers 0, or 4, 5 or 10 with .." over a C function and "// Done, or
 # refused with 4, 5 or 10 and .." over one below it, all in the order tested, and in docs/RULES.md the table of tests. Reading,
 # writing and performing a request are left out: what they answer after the first tests depends on the request. Exit code 1 where
 # one differs, with what it is.
 set -euo pipefail
 cd "$(dirname "$0")/../.."
 
-# FUNCTION NUMBER NUMBER ..: `checked` of a call, and the numbers that the demands have for formatting, tally, sheet and preview.
+# STATEMENT NUMBER NUMBER ..: of what is told after checks, by tally and inspection.
+told() {
+    awk '
+        /^[A-Z][A-Za-z]+ .* =$/ { name = $1 }
+        /^ +ToldFirst \(/ { sub(/^ +ToldFirst \(/, ""); sub(/ ∷ \[\]\).*/, ""); print name, $0 }' "$@"
+}
+
+# FUNCTION NUMBER NUMBER ..: `checked` of a call, and the numbers that the demands have for formatting, tally, inspection, sheet and preview.
 defined() {
     sed -nE 's@^checked \(([A-Za-z]+) .*\) = (.*) ∷ \[\]$@\1 \2@p' crates/calls/specs/Perform.antt |
         sed -E 's@([a-z])([A-Z])@\1_\2@; s@^[A-Za-z_]+@\L&@'
-    sed -nE 's@^.*RefusedFirst .* \((.*) ∷ \[\]\) \((ledger|card|tally)_conditions .*@\2 \1@p' crates/tables/specs/Demand1.antt |
+    told crates/tables/specs/Demand1.antt crates/inspection/specs/Demand1.antt |
+        sed -E 's@^Tallies @tally @; s@^Inspects([A-Z])@inspect\1@; s@^([A-Za-z]+)([A-Z])@\1_\2@; s@^[A-Za-z_]+@\L&@'
+    sed -nE 's@^.*RefusedFirst .* \((.*) ∷ \[\]\) \((ledger|card)_conditions .*@\2 \1@p' crates/tables/specs/Demand1.antt |
         sed -E 's@^(ledger|card)@format_\1@'
     sed -nE 's@^.*RefusedFirst .* \((.*) ∷ \[\]\) \(sheet_conditions .*@sheet \1@p' crates/closing_sheet/specs/Demand1.antt
     sed -nE 's@^.*RefusedFirst .* \((.*) ∷ \[\]\) \(preview_conditions .*@preview \1@p' crates/calls/specs/Preview.antt
@@ -53,7 +62,7 @@ in_rules() {
         sed -E 's@formatting a @format @; s@[ -]([a-z]+):@_\1:@; s@:@@'
 }
 
-# same WHERE LIST [FUNCTIONS]: the functions of a list, all twelve or those of an expression, have the numbers of the definitions.
+# same WHERE LIST [FUNCTIONS]: the functions of a list, all sixteen or those of an expression, have the numbers of the definitions.
 same() {
     local wanted found
     wanted=$(defined | sed 's@ ∷@@g' | grep -E "^(${3-.*}) " | sort)
@@ -65,10 +74,10 @@ same() {
     }
 }
 
-[ "$(defined | wc -l)" = 12 ] || { echo 'not twelve lists of numbers in the definitions:'; defined; exit 1; }
+[ "$(defined | wc -l)" = 16 ] || { echo 'not sixteen lists of numbers in the definitions:'; defined; exit 1; }
 same include/music_counter.h "$(in_header)"
 same crates/till/src/lib.rt "$(in_source crates/till/src/lib.rt)"
 same crates/tables/src/format.rt "$(in_source crates/tables/src/format.rt)" 'format_ledger|format_card'
 same crates/music_counter/src "$(in_source crates/music_counter/src/*.rt)" 'register|record|check_out|check_in|move_out|move_in|delete|preview'
 same docs/RULES.md "$(in_rules)"
-echo 'answers: twelve functions in the header, the source and the rules'
+echo 'answers: sixteen functions in the header, the source and the rules'

@@ -4,8 +4,11 @@
 #   - every refusal's name, number and words: `// Words.` over the variant `SomeName = N,` of the enum Refusal in the source is
 #     `COUNTER_SOME_NAME = N` with `/* words */` in the header, and `counter_text` answers these words for it; 0 is `done`; there
 #     is no other constant, no number is left out and no two have the same words;
+#   - the kinds of an entry, the states of a row and the places of the facts: `kind_number SomeName = N`, `state_number SomeName = N` and
+#     the order of `fact_values` in the definitions are `COUNTER_ENTRY_SOME_NAME = N`, `COUNTER_ROW_SOME_NAME = N` and
+#     `COUNTER_FACT_SOME_NAME = N` in the second, third and fourth enumeration, from 0 on; there is no other;
 #   - every kind of request, its name and number: `kind_of (SomeName ..) = N` in the definitions is `COUNTER_SOME_NAME = N` in the
-#     header's second enumeration, from 1 on; there is no other;
+#     fifth enumeration, from 1 on; there is no other;
 #   - every size, and the two values of a pair: what the definitions or the code have for it;
 #   - the number of the interface: that of the last landing note that has one, whose checksum of the declarations, of functions and
 #     of the struct of a request, is that of the header's, so that no declaration changes without a new number;
@@ -39,7 +42,7 @@ named() {
     sed -nE 's@^pub const ([A-Z_]+): u64 = ([0-9]+);$@\2 \1@p' "$1"
 }
 
-# The lines of the header's enumerations: of the answers, the first, and of the kinds, the second.
+# The lines of the header's enumerations, by their number: of the answers, the first, and of the kinds of request, the last.
 enumeration() {
     awk -v wanted="$1" '/^enum \{$/ { count++; inside = 1; next } /^};$/ { inside = 0 } inside && count == wanted' "$header"
 }
@@ -56,14 +59,20 @@ answered() {
         done
 }
 
-# NUMBER NAME of each kind of request in its definition, its name spelled as a constant's, and in the header.
-defined_kinds() {
-    sed -nE 's@^kind_of \(([A-Za-z]+)( [a-z]+)*\) = ([0-9]+)$@\3 \1@p' crates/requests/specs/Request.antt |
-        sed -E 's@([a-z])([A-Z])@\1_\2@g; s@.*@\U&@' | sort -n
+# NUMBER NAME of each line `function SomeName = N` of a definition, its name spelled as a constant's: FUNCTION FILE.
+defined() {
+    sed -nE "s@^$1 \\(?([A-Za-z]+)( [a-z0-9]+)*\\)? = ([0-9]+)\$@\3 \1@p" "$2" | sed -E 's@([a-z])([A-Z])@\1_\2@g; s@.*@\U&@' | sort -n
 }
 
-header_kinds() {
-    enumeration 2 | sed -nE 's@^ *COUNTER_([A-Z_]+) = ([0-9]+),?$@\2 \1@p'
+# NUMBER NAME of each fact, by its place.
+defined_facts() {
+    sed -nE 's@^fact_values f = (f\..*) ∷ \[\]$@\1@p' crates/formats/specs/Facts.antt | sed 's@ ∷ @\n@g' |
+        awk '{ sub(/^f\./, ""); print NR - 1, toupper($0) }'
+}
+
+# NUMBER NAME of each constant in an enumeration of the header, behind a prefix that all of them have: NUMBER PREFIX.
+in_header() {
+    enumeration "$1" | sed -nE "s@^ *COUNTER_$2([A-Z_]+) = ([0-9]+),?( */\\*.*\\*/)?\$@\2 \1@p"
 }
 
 # same WHAT WANTED FOUND: two lists, a line each, are the same.
@@ -82,13 +91,27 @@ same 'words that two numbers share' "$(cut -d' ' -f3- <<< "$source" | sort -u)" 
 same "the constants of $header" "$source" "$(enumerated)"
 same "a line of the first enumeration of $header is none of these" "$((last + 1))" "$(enumeration 1 | grep -c .)"
 same "counter_text of $header" "$source" "$(answered)"
-kinds=$(defined_kinds)
-kind_count=$(wc -l <<< "$kinds")
-same 'the kinds of the definition are not 1 to the last' "$(seq 1 "$kind_count")" "$(cut -d' ' -f1 <<< "$kinds")"
-same 'a line of kind_of is none of these' "$kind_count" "$(grep -c '^kind_of ' crates/requests/specs/Request.antt)"
-same "the kinds of $header" "$kinds" "$(header_kinds)"
-same "a line of the second enumeration of $header is none of these" "$kind_count" "$(enumeration 2 | grep -c .)"
-same "a constant of $header is in neither enumeration" "$((last + 1 + kind_count))" "$(grep -cE 'COUNTER_[A-Z0-9_]+ *=' "$header")"
+constants=$((last + 1))
+
+# listed WHAT FIRST DEFINED NUMBER PREFIX: the constants of an enumeration are those of a definition, from a number on.
+listed() {
+    local count
+    count=$(wc -l <<< "$3")
+    same "the $1 of the definition are not $2 to the last" "$(seq "$2" $(($2 + count - 1)))" "$(cut -d' ' -f1 <<< "$3")"
+    same "the $1 of $header" "$3" "$(in_header "$4" "$5")"
+    same "a line of the enumeration of the $1 of $header is none of these" "$count" "$(enumeration "$4" | grep -c .)"
+    constants=$((constants + count))
+}
+
+inspection=crates/inspection/specs/Inspect.antt
+kinds=$(defined kind_of crates/requests/specs/Request.antt)
+facts=$(defined_facts)
+listed 'kinds of an entry' 0 "$(defined kind_number $inspection)" 2 ENTRY_
+listed 'states of a row' 0 "$(defined state_number $inspection)" 3 ROW_
+listed 'places of facts' 0 "$facts" 4 FACT_
+listed 'kinds of request' 1 "$kinds" 5 ''
+same 'a line of kind_of is none of these' "$(wc -l <<< "$kinds")" "$(grep -c '^kind_of ' crates/requests/specs/Request.antt)"
+same "a constant of $header is in no enumeration" "$constants" "$(grep -cE 'COUNTER_[A-Z0-9_]+ *=' "$header")"
 requests=$(named host/requests/answers.rs)
 [ -n "$requests" ] || { echo 'host/requests/answers.rs: no number has a name'; exit 1; }
 same 'host/requests/answers.rs' "$(cut -d' ' -f1,2 <<< "$source" | grep -xF "$requests")" "$requests"
@@ -143,9 +166,10 @@ SHEET_SIZE $(number '^sheet_size = ([0-9]+)$' crates/closing_sheet/specs/Demand1
 MOST_ROWS $(number '^numbered v = leb 1 v \&\& leb v ([0-9]+)' crates/formats/specs/Facts.antt)
 LAST_ENTRY $(number 'eqb \(number \(part t 10 2\)\) ([0-9]+) ' crates/formats/specs/Head.antt)
 UNLIMITED $(number '^pub const UNLIMITED: u64 = ([0-9]+);' crates/calls/src/count.rt)
+FACT_COUNT $(wc -l <<< "$facts")
 BASKET_SIZE $(number '17 when ltb ([0-9]+) count' crates/calls/specs/Preview.antt)
 ARGUMENTS $(number ' arguments: &mut \[u64; ([0-9]+)\]' crates/till/src/lib.rt)
 LONGEST_REQUEST $(longest_request)"
 defined=$(sed -nE 's@^#define COUNTER_([A-Z_]+)(\(rows\))? (.*)$@\1 \3@p' "$header" | sed -E 's@\((24 \* .*)\)$@\1@; s@\(\(size_t\)\(rows\)@(rows@')
 same "the sizes, pairs and interface of $header" "$(sort <<< "$sizes")" "$(sort <<< "$defined")"
-echo "constants: $((last + 1)) numbers with their words, $kind_count kinds, $(wc -l <<< "$sizes") sizes and other constants"
+echo "constants: $((last + 1)) numbers with their words, $((constants - last - 1)) kinds, states and places, $(wc -l <<< "$sizes") sizes and others"

@@ -1,7 +1,8 @@
 /*
  * Tests libtill.a through music_counter.h, call by call, against document 01 and, for picture tables, the closing sheet, the
- * CCI of copies, what a move in reports, previews and spent entries, requests W1 to W7 of document 02. All that is lent tables
- * runs twice, with those of either pair. Each call that can be a request in numbers is also made as one, and previewed.
+ * CCI of copies, what a move in reports, previews and spent entries, requests W1 to W7 of document 02, and against what the header
+ * says of inspection. All that is lent tables runs twice, with those of either pair. Each call that can be a request in numbers is
+ * also made as one, and previewed.
  *
  * Before each call the test knows every byte of the buffers; after it, it knows every byte that the paper wants there, since
  * it sets them itself, field by field. All bytes are compared after every call, and so are the guard bytes
@@ -64,7 +65,7 @@ struct buffer {
 #define NO_ROOM NULL, NULL, NULL, 0
 
 static struct buffer ledger = {"ledger", NO_ROOM}, titles = {"title table", NO_ROOM}, rules = {"rule table", NO_ROOM};
-static struct buffer text = {"text", NO_ROOM};
+static struct buffer text = {"text", NO_ROOM}, numbers_told = {"numbers told", NO_ROOM};
 static struct buffer scratch_ledger = {"scratch ledger", NO_ROOM}, scratch_titles = {"scratch title table", NO_ROOM};
 static struct buffer scratch_rules = {"scratch rule table", NO_ROOM};
 static struct buffer basket = {"basket", NO_ROOM}, answers = {"answers", NO_ROOM};
@@ -73,8 +74,9 @@ static struct buffer basket = {"basket", NO_ROOM}, answers = {"answers", NO_ROOM
 static struct buffer *const originals[] = {&ledger, &titles, &rules};
 static struct buffer *const scratch[] = {&scratch_ledger, &scratch_titles, &scratch_rules};
 
-/* What most functions are lent, and what previews and requests are lent beside it. */
+/* What most functions are lent, and what inspections, and previews and requests, are lent beside it. */
 static struct buffer *const tables_and_text[] = {&ledger, &titles, &rules, &text, NULL};
+static struct buffer *const for_inspection[] = {&numbers_told, NULL};
 static struct buffer *const for_requests[] = {&scratch_ledger, &scratch_titles, &scratch_rules, &basket, &answers, NULL};
 
 static void make(struct buffer *b)
@@ -137,6 +139,12 @@ static uint64_t get(const struct buffer *b, size_t at, size_t count)
 static void put_byte(struct buffer *b, size_t at, unsigned value)
 {
     put(b, at, 1, value);
+}
+
+/* A number of C, in a place of a buffer of such. */
+static void put_word(struct buffer *b, size_t i, uint64_t value)
+{
+    memcpy(wanted(b) + i * sizeof value, &value, sizeof value);
 }
 
 static void settle_one(struct buffer *b)
@@ -321,6 +329,16 @@ static enum kind kind_of(uint64_t title_flag, uint64_t title_id, uint64_t cci, u
     return title && title_id == rule_id ? FULL : TORN;
 }
 
+/* "A row is here exactly when byte 0 is 1, CCI is 0, 2 or 3, trigger at most 1, rights and permits at most 15" */
+static enum state state_at(uint64_t c)
+{
+    const uint8_t *row = wanted(&ledger) + 24 * c;
+
+    if (row[0] == HERE)
+        return row[1] != 1 && row[1] <= 3 && row[2] <= 1 && row[3] <= 15 && row[4] <= 15 ? HERE : NO_STATE;
+    return row[0] <= GONE ? (enum state)row[0] : NO_STATE;
+}
+
 /* What the card has of each content ID, its first full entry's permits and rights among it. */
 struct on_card {
     unsigned copies, permits, rights;
@@ -369,7 +387,7 @@ static const char *sheet(void)
 
         if (row[0] == EMPTY)
             continue;
-        if (row[0] == HERE && row[1] != 1 && row[1] <= 3 && row[2] <= 1 && row[3] <= 15 && row[4] <= 15) {
+        if (state_at(c) == HERE) {
             permits = row[4];
             rights = row[3];
         }
@@ -385,7 +403,79 @@ static const char *sheet(void)
     return out;
 }
 
-/* ---------------------------------------------------------------- the thirteen functions that are lent tables */
+/* ---------------------------------------------------------------- what an inspection tells, from the header */
+
+/*
+ * The places of the numbers told, with one between those of a call that is lent as no place. The last of each call is the last
+ * of all, so that the page is behind it.
+ */
+enum { KIND = 0, CONTENT = 2, STATE = 2, FACT_PLACES = 4, HOLDERS = 7, COPIES = 9, VACANCY = 9, PLACES_TOLD = 10 };
+
+_Static_assert(COUNTER_ENTRY_FREE == 0 && COUNTER_ENTRY_COPY == 1 && COUNTER_ENTRY_FULL == 2 && COUNTER_ENTRY_TORN == 3 &&
+                   COUNTER_ENTRY_SPENT == 4,
+               "the kinds by their numbers");
+_Static_assert(COUNTER_ROW_EMPTY == 0 && COUNTER_ROW_HERE == 1 && COUNTER_ROW_AWAY == 2 && COUNTER_ROW_GONE == 3 &&
+                   COUNTER_ROW_NO_STATE == 4,
+               "the states by their numbers");
+
+/* "in the order in which counter_register takes them" */
+static void tell_facts(uint64_t cci, uint64_t trigger, uint64_t rights, uint64_t permits, uint64_t title_key, uint64_t sti_key)
+{
+    put_word(&numbers_told, FACT_PLACES + COUNTER_FACT_CCI, cci);
+    put_word(&numbers_told, FACT_PLACES + COUNTER_FACT_TRIGGER, trigger);
+    put_word(&numbers_told, FACT_PLACES + COUNTER_FACT_RIGHTS, rights);
+    put_word(&numbers_told, FACT_PLACES + COUNTER_FACT_PERMITS, permits);
+    put_word(&numbers_told, FACT_PLACES + COUNTER_FACT_TITLE_KEY, title_key);
+    put_word(&numbers_told, FACT_PLACES + COUNTER_FACT_STI_KEY, sti_key);
+}
+
+static void after_inspect_entry(void)
+{
+    enum kind kind = kind_at(a.j);
+    uint64_t cci = get(&titles, 16 * a.j, 1) % 4, title_key = get(&titles, 16 * a.j + 1, 7);
+    uint64_t counts = get(&rules, 32 * a.j + 17, 1);
+
+    put_word(&numbers_told, KIND, kind);
+    put_word(&numbers_told, CONTENT, kind == COPY || kind == FULL || kind == SPENT ? id_at(a.j) : 0);
+    tell_facts(0, 0, 0, 0, 0, 0);
+    if (kind == COPY)
+        tell_facts(cci, 0, 0, 0, title_key, 0);
+    if (kind == FULL)
+        tell_facts(cci, get(&rules, 32 * a.j + 16, 1) / 128, counts / 16, counts % 16, title_key, get(&rules, 32 * a.j + 1, 7));
+}
+
+static void after_inspect_row(void)
+{
+    const uint8_t *row = wanted(&ledger) + 24 * a.c;
+
+    put_word(&numbers_told, STATE, state_at(a.c));
+    tell_facts(0, 0, 0, 0, 0, 0);
+    if (state_at(a.c) == HERE)
+        tell_facts(row[1], row[2], row[3], row[4], get(&ledger, 24 * a.c + 8, 7), get(&ledger, 24 * a.c + 16, 7));
+}
+
+static void after_inspect_title(void)
+{
+    uint64_t holders = state_at(a.c) == HERE, lent = 0;
+
+    for (size_t j = 1; j <= 999; j++) {
+        holders += kind_at(j) == FULL && id_at(j) == a.c;
+        lent += kind_at(j) == COPY && id_at(j) == a.c;
+    }
+    put_word(&numbers_told, HOLDERS, holders);
+    put_word(&numbers_told, COPIES, lent);
+}
+
+static void after_first_vacant(void)
+{
+    uint64_t j = a.j;
+
+    while (j <= 999 && kind_at(j) != FREE && kind_at(j) != SPENT)
+        j++;
+    put_word(&numbers_told, VACANCY, j <= 999 ? j : 0);
+}
+
+/* ---------------------------------------------------------------- the seventeen functions that are lent tables */
 
 #define LEDGER bytes(&ledger), ledger.length
 #define TITLES bytes(&titles), titles.length
@@ -404,6 +494,30 @@ static uint64_t call_move_out(void) { return counter_move_out(pair, LEDGER, CARD
 static uint64_t call_move_in(void) { return counter_move_in(pair, LEDGER, CARD, a.c, a.j, a.h, &entries_read); }
 static uint64_t call_delete(void) { return counter_delete(pair, LEDGER, CARD, a.j, a.f1, a.f2, a.f3, a.f4); }
 static uint64_t call_tally(void) { return counter_tally(pair, CARD, a.c, &copies); }
+
+static uint64_t *place_told(size_t i)
+{
+    void *front = bytes(&numbers_told);
+
+    return (uint64_t *)front + i;
+}
+
+static uint64_t call_inspect_entry(void)
+{
+    return counter_inspect_entry(pair, CARD, a.j, place_told(KIND), place_told(CONTENT), place_told(FACT_PLACES));
+}
+
+static uint64_t call_inspect_row(void)
+{
+    return counter_inspect_row(LEDGER, a.c, place_told(STATE), place_told(FACT_PLACES));
+}
+
+static uint64_t call_inspect_title(void)
+{
+    return counter_inspect_title(pair, LEDGER, CARD, a.c, place_told(HOLDERS), place_told(COPIES));
+}
+
+static uint64_t call_first_vacant(void) { return counter_first_vacant(pair, CARD, a.j, place_told(VACANCY)); }
 static uint64_t call_sheet(void) { return counter_sheet(pair, LEDGER, CARD, TEXT, &used); }
 
 /* The request at this place of the basket. */
@@ -438,11 +552,6 @@ static struct counter_request request_of(uint64_t kind)
 static void put_request(size_t i, struct counter_request r)
 {
     memcpy(wanted(&basket) + i * sizeof r, &r, sizeof r);
-}
-
-static void put_answer(size_t i, uint64_t answer)
-{
-    memcpy(wanted(&answers) + i * sizeof answer, &answer, sizeof answer);
 }
 
 /* A request that stands alone, so that the page is behind it. */
@@ -494,6 +603,13 @@ static void ready_tally(void)
     title_half(a.j, a.c);
     title_half(999, a.c);
     title_half(1, a.c % 999 + 1);
+}
+
+/* Its row, and as many copies as a tally finds. */
+static void ready_inspect_title(void)
+{
+    here_row(a.c);
+    ready_tally();
 }
 
 /* What each leaves where it is done. */
@@ -631,6 +747,10 @@ static const struct function functions[] = {
     {"delete of a full entry", ready_full, call_delete, after_delete_full, FULL, AWAY, {5, 7, 8, 9, 10, 11, 16},
      COUNTER_DELETE},
     {"tally", ready_tally, call_tally, after_tally, NO_ENTRY, ANY_STATE, {4, 8, 9}, 0},
+    {"inspect entry", ready_full, call_inspect_entry, after_inspect_entry, NO_ENTRY, ANY_STATE, {5, 8, 9}, 0},
+    {"inspect row", ready_here, call_inspect_row, after_inspect_row, NO_ENTRY, ANY_STATE, {4, 7, 11}, 0},
+    {"inspect title", ready_inspect_title, call_inspect_title, after_inspect_title, NO_ENTRY, ANY_STATE, {4, 7, 8, 9, 11}, 0},
+    {"first vacant", ready_copy, call_first_vacant, after_first_vacant, NO_ENTRY, ANY_STATE, {5, 8, 9}, 0},
     {"sheet", ready_copy, call_sheet, after_sheet, NO_ENTRY, ANY_STATE, {7, 8, 9, 1}, 0},
     /* a check-out whose kind is an argument too */
     {"perform", ready_here, call_perform, after_check_out, VACANT, HERE, {3, 4, 5, 7, 8, 9, 10, 11, 12}, 0},
@@ -681,6 +801,7 @@ static void begin(const struct function *f, uint64_t rows, uint64_t c, uint64_t 
     fresh_ledger(rows);
     fresh_card(APPLICATION);
     resize(&text, COUNTER_SHEET_SIZE);
+    resize(&numbers_told, PLACES_TOLD * sizeof(uint64_t));
     f->ready();
 }
 
@@ -695,7 +816,7 @@ static void as_request(int line, const struct function *f, uint64_t answer)
 {
     count = 1;
     memset(wanted(&answers), 0, answers.length);
-    put_answer(0, answer);
+    put_word(&answers, 0, answer);
     to_scratch();
     same(line, f->name, "as a request previewed", call_preview(), COUNTER_DONE);
     compare_each(line, f->name, tables_and_text);
@@ -714,6 +835,7 @@ static void check(int line, const struct function *f, uint64_t answer)
     int lent_requests = f->request != 0 || f->call == call_perform || f->call == call_preview;
 
     memset(wanted(&text), 0xee, text.length);
+    memset(wanted(&numbers_told), 0xee, numbers_told.length);
     if (f->request != 0) {
         lend_scratch();
         put_request(0, request_of(f->request));
@@ -721,6 +843,7 @@ static void check(int line, const struct function *f, uint64_t answer)
     if (lent_requests)
         each_of(for_requests, settle_one);
     settle();
+    each_of(for_inspection, settle_one);
     copies = copies_wanted = used = used_wanted = entries_read = entries_read_wanted = 0xcccc;
     if (f->call == call_move_in)
         entries_read_wanted = report(answer);
@@ -732,6 +855,7 @@ static void check(int line, const struct function *f, uint64_t answer)
     compare_each(line, f->name, tables_and_text);
     if (lent_requests)
         compare_each(line, f->name, for_requests);
+    compare_each(line, f->name, for_inspection);
     same(line, f->name, "entries read", entries_read, entries_read_wanted);
     same(line, f->name, "copies", copies, copies_wanted);
     same(line, f->name, "used", used, used_wanted);
@@ -779,7 +903,12 @@ static void meet(const struct function *f, unsigned number)
     case 8: resize(&titles, titles.length - 1); break;
     case 9: resize(&rules, rules.length + 1); break;
     case 10: halves(7, 1, 5, 1, 6); break;
-    case 11: put_byte(&ledger, 24 * 5, 4); break;
+    case 11:
+        if (f->state == ANY_STATE)
+            a.c = ledger.length / 24;
+        else
+            put_byte(&ledger, 24 * 5, 4);
+        break;
     case 12:
         if (f->after == after_check_out)
             put_byte(&ledger, 24 * 5 + 4, 0);
@@ -1036,7 +1165,7 @@ static void heads(struct buffer *b, const char *ignored, unsigned number)
             continue;
         for (size_t at = 0; ignored[at] != 0; at++)
             for (unsigned step = 1; step < 256; step += 254) {
-                int kept = ignored[at] == '1' || (ignored[at] == 'a' && f == named("tally")) ||
+                int kept = ignored[at] == '1' || (ignored[at] == 'a' && !refuses(f, 7)) ||
                            (ignored[at] == 'v' && step == 1) || (ignored[at] == 'r' && !refuses(f, 8));
 
                 begin(f, 64, 5, 7);
@@ -1216,6 +1345,24 @@ static void formatting_anew(void)
 /* No title, the title of the row and another, and the limits of the IDs of titles. */
 static const uint64_t ids[] = {0, 1, 5, 6, 999, 1000, 1023};
 
+typedef void with_entry(uint64_t title_flag, uint64_t title_id, uint64_t cci, uint64_t rule_flag, uint64_t rule_id);
+
+/* All flags, IDs and CCI of an entry. */
+static void each_entry(with_entry *with)
+{
+    for (unsigned flags = 0; flags < 4; flags++)
+        for (size_t k = 0; k < COUNT_OF(ids) * COUNT_OF(ids); k++)
+            for (uint64_t cci = 0; cci < 4; cci++)
+                with(flags % 2, ids[k % COUNT_OF(ids)], cci, flags / 2, ids[k / COUNT_OF(ids)]);
+}
+
+/* "at which no record, check-out or move in is answered 10" */
+static void told_vacant(int vacant)
+{
+    CHECK(named("first vacant"), COUNTER_DONE);
+    same(__LINE__, "first vacant", "told entry 7", *place_told(VACANCY) == 7, vacant);
+}
+
 /*
  * Each entry of flags and IDs, for each function that needs a kind. A call that finds its kind finds its row too if that is row 5.
  * "Calls that needed a free entry accept free or spent, so no earlier answer changes": they need what free was before.
@@ -1232,6 +1379,8 @@ static void kinds_of(const struct function *f, uint64_t title_flag, uint64_t tit
             a.cci = f->kind == VACANT ? a.cci : cci;
             halves(7, title_flag, title_id, rule_flag, ids[k]);
             put(&titles, 16 * 7, 1, cci);
+            if (f->kind == VACANT)
+                told_vacant(no_half_usable);
             if (f->kind == COPY && kind == FULL && f->call == call_delete)
                 CHECK(f, 11);
             else if (f->kind == FULL && kind == COPY && f->call == call_delete)
@@ -1321,17 +1470,24 @@ static void set_bits(struct buffer *b, size_t at, unsigned bits)
     put_byte(b, at, wanted(b)[at] | bits);
 }
 
-/* Sets every reserved bit of an entry. */
-static void set_reserved_bits(uint64_t j)
+/* Sets every reserved bit of a half. */
+static void set_reserved_bits_of(struct buffer *b, uint64_t j)
 {
     static const uint8_t title_bits[16] = {0xfc, 0, 0, 0, 0, 0, 0, 0, 0x7f, 0xff, 0xff, 0xff, 0xff, 0xff, 0xfc, 0};
     static const uint8_t rule_bits[32] = {0xff, 0, 0, 0, 0, 0, 0, 0, 0x7f, 0xff, 0xff, 0xff, 0xff, 0xff, 0xfc, 0,
                                           0x7f, 0, 0, 0, 0, 0, 0, 0, 0, 0, 0xff, 0xff, 0xff, 0xff, 0xff, 0xff};
+    const uint8_t *bits = b == &titles ? title_bits : rule_bits;
+    size_t size = b == &titles ? sizeof title_bits : sizeof rule_bits;
 
-    for (size_t at = 0; at < 16; at++)
-        set_bits(&titles, 16 * j + at, title_bits[at]);
-    for (size_t at = 0; at < 32; at++)
-        set_bits(&rules, 32 * j + at, rule_bits[at]);
+    for (size_t at = 0; at < size; at++)
+        set_bits(b, size * j + at, bits[at]);
+}
+
+/* The same of both halves of an entry. */
+static void set_reserved_bits(uint64_t j)
+{
+    set_reserved_bits_of(&titles, j);
+    set_reserved_bits_of(&rules, j);
 }
 
 /* Reserved bits before a write or a wipe: a write leaves none, a wipe keeps those that it does not name. */
@@ -1565,16 +1721,6 @@ static void tally_of(uint64_t title_flag, uint64_t title_id, uint64_t cci, uint6
     want_copies(__LINE__, count);
 }
 
-static void tallies_of_kinds(void)
-{
-    static const uint64_t ids[] = {0, 5, 6, 1000};
-
-    for (unsigned flags = 0; flags < 4; flags++)
-        for (size_t k = 0; k < COUNT_OF(ids) * COUNT_OF(ids); k++)
-            for (uint64_t cci = 0; cci < 4; cci++)
-                tally_of(flags % 2, ids[k % COUNT_OF(ids)], cci, flags / 2, ids[k / COUNT_OF(ids)]);
-}
-
 /* A title's way through the shop, each call on what the last one left, and the sheet after each. */
 static void a_history(void)
 {
@@ -1594,6 +1740,8 @@ static void a_history(void)
         a.permits = f == named("check-in") ? 0 : 1;
         CHECK(f, steps[k].answer);
         CHECK(named("sheet"), 0);
+        CHECK(named("inspect title"), 0);
+        same(__LINE__, "history", "holders", *place_told(HOLDERS), 1);
         if (f == named("move in") && steps[k].answer == 0)
             a.rights = 1;
     }
@@ -1788,24 +1936,26 @@ static void sheets_of_copies(void)
     WANT_SHEET("1 1 15 15 2\n2 2 0 0 10\n3 3 0 0 1\n64 1 3 2 2\ntotal 3 15\nspent 980\n");
 }
 
-/* Entries 7 and 9 of all flags, IDs and CCI, beside a title that is here and one that is away; in 9 the reserved bits are set. */
-static void sheets_of_kinds(void)
+/* Title 5 is here and title 6 away, in entry 8; entries 7 and 9 are as given, with facts in them and in 9 every reserved bit. */
+static void beside_entry_8(uint64_t title_flag, uint64_t title_id, uint64_t cci, uint64_t rule_flag, uint64_t rule_id)
 {
-    for (unsigned flags = 0; flags < 4; flags++)
-        for (size_t k = 0; k < COUNT_OF(ids) * COUNT_OF(ids); k++)
-            for (uint64_t cci = 0; cci < 4; cci++) {
-                fresh(64);
-                here(5, 3, 2);
-                plain_row(6, 2);
-                full(8, 6, 5, 4);
-                for (uint64_t j = 7; j <= 9; j += 2) {
-                    full(j, 5, j, 1);
-                    halves(j, flags % 2, ids[k % COUNT_OF(ids)], flags / 2, ids[k / COUNT_OF(ids)]);
-                    put(&titles, 16 * j, 1, cci);
-                }
-                set_reserved_bits(9);
-                CHECK(named("sheet"), 0);
-            }
+    fresh(64);
+    here(5, 3, 2);
+    plain_row(6, 2);
+    full(8, 6, 5, 4);
+    a.trigger = 1;
+    for (uint64_t j = 7; j <= 9; j += 2) {
+        full(j, 5, j, 1);
+        halves(j, title_flag, title_id, rule_flag, rule_id);
+        put(&titles, 16 * j, 1, cci);
+    }
+    set_reserved_bits(9);
+}
+
+static void sheet_of(uint64_t title_flag, uint64_t title_id, uint64_t cci, uint64_t rule_flag, uint64_t rule_id)
+{
+    beside_entry_8(title_flag, title_id, cci, rule_flag, rule_id);
+    CHECK(named("sheet"), 0);
 }
 
 /* Up to all entries, each with another ID. Where its number gets a digit, they take turns with what no spent entry is. */
@@ -1919,10 +2069,249 @@ static void sheets(void)
     sheets_of_states();
     sheets_of_facts_out_of_range();
     sheets_of_copies();
-    sheets_of_kinds();
+    each_entry(sheet_of);
     sheets_of_spent();
     ways_of_spent();
     longest_sheets();
+}
+
+/* ---------------------------------------------------------------- inspections */
+
+/* What the last call told in this place and those after it. */
+static void want_told(int line, size_t i, size_t count, const uint64_t *expected)
+{
+    for (size_t k = 0; k < count; k++)
+        same(line, "inspection", "told", *place_told(i + k), expected[k]);
+}
+
+#define LIST(...) (const uint64_t[]){__VA_ARGS__}
+#define WANT_TOLD(place, ...) want_told(__LINE__, place, COUNT_OF((LIST(__VA_ARGS__))), LIST(__VA_ARGS__))
+
+/* Entry 7 of each kind, the same facts in its halves whatever it is, without reserved bits and with those of either half or both. */
+static void inspections_of_kinds(void)
+{
+    static const struct { uint64_t title_flag, title_id, rule_flag, rule_id, kind, content; } entries[] = {
+        {0, 0, 0, 0, 0, 0},    {1, 0, 0, 5, 0, 0},     {0, 1000, 0, 5, 0, 0},    {0, 1023, 1, 0, 0, 0},
+        {1, 5, 0, 5, 1, 5},    {1, 999, 1, 0, 1, 999}, {1, 5, 1, 5, 2, 5},       {1, 999, 1, 999, 2, 999},
+        {1, 5, 1, 6, 3, 0},    {0, 5, 1, 5, 3, 0},     {1, 1000, 0, 0, 3, 0},    {1, 1023, 1, 1023, 3, 0},
+        {1, 5, 1, 1000, 3, 0}, {0, 0, 1, 1000, 3, 0},  {0, 5, 0, 5, 4, 5},       {0, 999, 1, 0, 4, 999},
+        {0, 1, 0, 1023, 4, 1},
+    };
+
+    for (size_t k = 0; k < 4 * COUNT_OF(entries); k++) {
+        size_t e = k / 4;
+
+        begin(named("inspect entry"), 64, 5, 7);
+        a.trigger = 1;
+        full(7, 5, 13, 14);
+        halves(7, entries[e].title_flag, entries[e].title_id, entries[e].rule_flag, entries[e].rule_id);
+        if (k & 1)
+            set_reserved_bits_of(&titles, 7);
+        if (k & 2)
+            set_reserved_bits_of(&rules, 7);
+        CHECK(named("inspect title"), 0);
+        WANT_TOLD(HOLDERS, entries[e].kind == FULL && entries[e].content == 5);
+        WANT_TOLD(COPIES, entries[e].kind == COPY && entries[e].content == 5);
+        CHECK(named("first vacant"), 0);
+        WANT_TOLD(VACANCY, entries[e].kind == FREE || entries[e].kind == SPENT ? 7 : 8);
+        CHECK(named("inspect entry"), 0);
+        WANT_TOLD(KIND, entries[e].kind);
+        WANT_TOLD(CONTENT, entries[e].content);
+        if (entries[e].kind == FULL)
+            WANT_TOLD(FACT_PLACES, 2, 1, 14, 13, a.title_key, a.sti_key);
+        else if (entries[e].kind == COPY)
+            WANT_TOLD(FACT_PLACES, 2, 0, 0, 0, a.title_key, 0);
+        else
+            WANT_TOLD(FACT_PLACES, 0, 0, 0, 0, 0, 0);
+    }
+}
+
+/* All entries; and of each whether it is vacant, from it on and from the first on, and what its title has. */
+static void inspections_of(uint64_t title_flag, uint64_t title_id, uint64_t cci, uint64_t rule_flag, uint64_t rule_id)
+{
+    static const uint64_t from[] = {1, 7, 8, 9};
+
+    beside_entry_8(title_flag, title_id, cci, rule_flag, rule_id);
+    for (uint64_t j = 1; j <= 6; j++)
+        title_half(j, 5);
+    for (a.j = 6; a.j <= 10; a.j++)
+        CHECK(named("inspect entry"), 0);
+    for (size_t k = 0; k < COUNT_OF(from); k++) {
+        a.j = from[k];
+        CHECK(named("first vacant"), 0);
+    }
+    for (a.c = 5; a.c <= 7; a.c++)
+        CHECK(named("inspect title"), 0);
+}
+
+/* Every count and trigger, and keys at their limits: of a full entry, of the copy that its title half alone is, and of a row. */
+static void inspections_of_facts(void)
+{
+    static const uint64_t keys[] = {0, 1, 0x0123456789abcd, KEY_LIMIT - 1}, ccis[] = {0, 2, 3};
+
+    for (uint64_t n = 0; n < 16 * 2 * COUNT_OF(keys); n++) {
+        begin(named("inspect entry"), 64, 5, 7);
+        a.cci = ccis[n % COUNT_OF(ccis)];
+        a.trigger = n / 16 % 2;
+        a.title_key = keys[n / 32];
+        a.sti_key = keys[COUNT_OF(keys) - 1 - n / 32];
+        here(5, n % 16, 15 - n % 16);
+        full(7, 5, n % 16, 15 - n % 16);
+        CHECK(named("inspect row"), 0);
+        WANT_TOLD(FACT_PLACES, FACTS);
+        CHECK(named("inspect entry"), 0);
+        WANT_TOLD(FACT_PLACES, FACTS);
+        halves(7, 1, 5, 0, 5);
+        CHECK(named("inspect entry"), 0);
+        WANT_TOLD(FACT_PLACES, a.cci, 0, 0, 0, a.title_key, 0);
+    }
+}
+
+/* Row 5 with these bytes, and its title, which has a copy and a full entry. */
+static void inspect_row_5(enum state state)
+{
+    ready_tally();
+    full(8, 5, 4, 3);
+    CHECK(named("inspect row"), 0);
+    WANT_TOLD(STATE, state);
+    CHECK(named("inspect title"), 0);
+    WANT_TOLD(HOLDERS, 1 + (state == HERE));
+}
+
+/* Every byte 0, with facts in range, none, and bytes that no row that is here has; every value of each fact; and bytes not looked at. */
+static void inspections_of_rows(void)
+{
+    static const size_t not_looked_at[] = {5, 6, 7, 15, 23};
+
+    for (unsigned value = 0; value < 256; value++) {
+        enum state state = value < 4 ? (enum state)value : NO_STATE;
+
+        begin(named("inspect row"), 64, 5, 7);
+        put_byte(&ledger, 24 * 5, value);
+        inspect_row_5(state);
+        plain_row(5, value);
+        inspect_row_5(state);
+        memset(wanted(&ledger) + 24 * 5 + 1, 0xff, 23);
+        inspect_row_5(state == HERE ? NO_STATE : state);
+        for (size_t at = 1; at <= 4; at++) {
+            begin(named("inspect row"), 64, 5, 7);
+            put_byte(&ledger, 24 * 5 + at, value);
+            inspect_row_5(value > (const unsigned[]){3, 1, 15, 15}[at - 1] || (at == 1 && value == 1) ? NO_STATE : HERE);
+        }
+    }
+    begin(named("inspect row"), 64, 5, 7);
+    for (size_t k = 0; k < COUNT_OF(not_looked_at); k++)
+        put_byte(&ledger, 24 * 5 + not_looked_at[k], 0xff);
+    inspect_row_5(HERE);
+}
+
+static void want_holders(int line, uint64_t holders, uint64_t lent)
+{
+    check(line, named("inspect title"), COUNTER_DONE);
+    want_told(line, HOLDERS, 1, &holders);
+    want_told(line, COPIES, 1, &lent);
+}
+
+/* Up to as many holders as there are places; then copies among them, titles beside them, and what has no title. */
+static void inspections_of_titles(void)
+{
+    static const uint64_t titles_of[] = {1, 5, 512, 999};
+
+    for (size_t k = 0; k < COUNT_OF(titles_of); k++) {
+        uint64_t c = titles_of[k];
+
+        begin(named("register"), 999, c, 7);
+        want_holders(__LINE__, 0, 0);
+        here_row(c);
+        want_holders(__LINE__, 1, 0);
+        for (uint64_t j = 1; j <= 999; j++) {
+            full(j, c, 4, 3);
+            if (j % 100 < 3)
+                want_holders(__LINE__, 1 + j, 0);
+        }
+        want_holders(__LINE__, 1000, 0);
+        plain_row(c, 2);
+        want_holders(__LINE__, 999, 0);
+        for (uint64_t j = 1; j <= 250; j++)
+            halves(j, 1, c, 0, c);
+        want_holders(__LINE__, 749, 250);
+        for (uint64_t j = 251; j <= 500; j++)
+            halves(j, 0, c, 0, c);
+        want_holders(__LINE__, 499, 250);
+        for (uint64_t j = 501; j <= 999; j++)
+            halves(j, 1, c % 999 + 1, j % 2, c % 999 + 1);
+        want_holders(__LINE__, 0, 250);
+        put_byte(&titles, 16 * 250, 1); /* torn by its CCI */
+        want_holders(__LINE__, 0, 249);
+    }
+}
+
+static void want_vacant(int line, uint64_t from, uint64_t entry)
+{
+    a.j = from;
+    check(line, named("first vacant"), COUNTER_DONE);
+    want_told(line, VACANCY, 1, &entry);
+}
+
+/* An entry that is a copy, full or torn. */
+static void take_entry(uint64_t j)
+{
+    full(j, 5, 4, 3);
+    halves(j, j % 5 != 0, 5, j % 3 != 0 || j % 5 == 0, j % 3 + 4);
+}
+
+/* On a card on which every entry is vacant, none, or each alone: free or spent, by every other number. */
+static void vacant_alone(void)
+{
+    fresh(64);
+    for (uint64_t j = 1; j <= 999; j++) {
+        halves(j, 0, j % 2 * 5, 0, 5);
+        want_vacant(__LINE__, 999, 999);
+    }
+    for (uint64_t j = 1; j <= 999; j++)
+        want_vacant(__LINE__, j, j);
+    for (uint64_t j = 1; j <= 999; j++)
+        take_entry(j);
+    for (uint64_t j = 1; j <= 999; j++)
+        want_vacant(__LINE__, j, 0);
+    for (uint64_t j = 1; j <= 999; j++) {
+        halves(j, 0, j % 2 * 5, 0, 5);
+        want_vacant(__LINE__, 1, j);
+        want_vacant(__LINE__, j, j);
+        if (j < 999)
+            want_vacant(__LINE__, j + 1, 0);
+        take_entry(j);
+    }
+}
+
+/* From each entry to the next of those that are vacant, which are ever further apart. */
+static void vacant_apart(void)
+{
+    uint64_t next = 1, step = 1;
+
+    fresh(64);
+    for (uint64_t j = 1; j <= 999; j++)
+        if (j == next)
+            next += ++step;
+        else
+            take_entry(j);
+    next = step = 1;
+    for (uint64_t j = 1; j <= 999; j++) {
+        want_vacant(__LINE__, j, next <= 999 ? next : 0);
+        if (j == next)
+            next += ++step;
+    }
+}
+
+static void inspections(void)
+{
+    inspections_of_kinds();
+    each_entry(inspections_of);
+    inspections_of_facts();
+    inspections_of_rows();
+    inspections_of_titles();
+    vacant_alone();
+    vacant_apart();
 }
 
 /* ---------------------------------------------------------------- baskets */
@@ -2019,7 +2408,7 @@ static void after_preview(void)
 
         if (steps[i].answer == COUNTER_DONE)
             f->after();
-        put_answer(i, steps[i].answer);
+        put_word(&answers, i, steps[i].answer);
         given_in_basket[pair][steps[i].answer]++;
     }
     to_scratch();
@@ -2467,9 +2856,10 @@ static unsigned long all_with(bool next)
     copies_beside();
     entries_read_to_a_copy();
     tallies();
-    tallies_of_kinds();
+    each_entry(tally_of);
     a_history();
     sheets();
+    inspections();
     baskets();
     all_answers();
     return checks - before;
@@ -2480,6 +2870,7 @@ int main(void)
     unsigned long audio, picture;
 
     each_of(tables_and_text, make);
+    each_of(for_inspection, make);
     each_of(for_requests, make);
     audio = all_with(COUNTER_AUDIO);
     picture = all_with(COUNTER_PICTURE);

@@ -97,7 +97,7 @@ tests_rules pair b =
     }
 
 -- 10: the entry is of the kind needed
-is_vacant_lem : (k : EntryKind) → not (is_vacant k) ≡ false → (k ≡ Free) ⊎ (k ≡ Spent)
+pub is_vacant_lem : (k : EntryKind) → not (is_vacant k) ≡ false → (k ≡ Free) ⊎ (k ≡ Spent)
 is_vacant_lem Free e = inl refl
 is_vacant_lem Copy e = absurd (true≢false e)
 is_vacant_lem Full e = absurd (true≢false e)

@@ -2,7 +2,6 @@
 -- Assumes nothing.
 use Prim.Native.Nat.{ℕ, ◌+◌, ◌^◌, ◌≤◌, ◌<◌}
 use mathlib.Core.Path.{◌≡◌, refl, sym, ap, ◌∙◌}
-use mathlib.Core.Logic.{inl, inr}
 use mathlib.Core.List.{List, [], ◌∷◌}
 use mathlib.Core.Bool.{cond}
 use native.Mathlib.Omega.{arith}
@@ -20,12 +19,14 @@ use Rattle.requests.specs.Number.{Wrote, NotWritten}
 use Rattle.requests.specs.declared.request.Request.{Request}
 use Rattle.calls.specs.Buffers.{Buffers, Within}
 use Rattle.calls.specs.History.{start, run}
+use Rattle.calls.specs.Needs.{◌needs◌}
+use Rattle.formats.specs.Head.{LedgerHead}
 use Rattle.calls.specs.Refusal.{RefusedFirst, NoneHolds}
 use Rattle.calls.proofs.Refusals.{refused_first, either_way}
 use Rattle.calls.proofs.Fresh.{fresh_heads}
 use Rattle.calls.proofs.History.Always.{sound, heads_stay}
-use Rattle.calls.proofs.Pairs.{other_titles, other_rules}
 use Rattle.calls.proofs.Passed.{Tests, end, ◌then◌, answered_by, tests_ledger, tests_titles, tests_rules}
+use Rattle.tables.proofs.Told.{told_other_pair}
 use Rattle.closing_sheet.specs.Sheet.{sheet_text, sheet_conditions, sheet_refusal, sheet_writing, sheet_written_to}
 use Rattle.closing_sheet.specs.Demand1.{sheet_answer, WritesSheet, SheetOtherPair, sheet_size, Demand1Sheet}
 use Rattle.closing_sheet.proofs.sheet.Laws.{sheet_listed, sheet_most}
@@ -61,12 +62,7 @@ module _ (pair : Pair) (b : Buffers) (text : List ℕ) where
       }
 
   sheet_other_pair : SheetOtherPair pair b text
-  sheet_other_pair =
-      let answered = writes_sheet.answered in
-      record {
-        by_titles = λ ledger t. answered.refused 8 (inr (ledger, inl (other_titles pair b.titles t, refl)));
-        by_rules = λ ledger t r. answered.refused 9 (inr (ledger, inr (t, inl (λ h. other_rules pair b.rules r h.head, refl))));
-      }
+  sheet_other_pair = told_other_pair pair b.titles b.rules (7 needs LedgerHead b.ledger ∷ []) _ (λ h. h.head) writes_sheet.answered
 
 -- after calls on a fresh ledger and card the heads are right, and a text of that size has room
 after_calls : (pair : Pair) (rows application : ℕ) → Within 999 rows → application < 2 ^ 16 → (ks : List Request) (text : List ℕ)

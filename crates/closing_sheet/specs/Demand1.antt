@@ -3,7 +3,7 @@ use Rattle.std.specs.Prelude.{ℕ, ◌^◌, ◌≤◌, ◌<◌, ◌≡◌, List,
 use Rattle.formats.specs.declared.head.Pair.{Pair}
 use Rattle.formats.specs.Answer.{done}
 use Rattle.formats.specs.Bytes.{Bytes}
-use Rattle.formats.specs.Head.{LedgerHead, TitlesHead, RulesHead}
+use Rattle.formats.specs.Head.{LedgerHead}
 use Rattle.formats.specs.Part.{put}
 use Rattle.requests.specs.Number.{written_answer}
 use Rattle.requests.specs.declared.request.Request.{Request}
@@ -11,8 +11,8 @@ use Rattle.calls.specs.Buffers.{Buffers, Within}
 use Rattle.calls.specs.History.{start, run}
 use Rattle.calls.specs.Refusal.{RefusedFirst}
 use Rattle.calls.specs.Needs.{◌needs◌, AnsweredBy, head_needs}
-use Rattle.calls.specs.Pairs.{other_pair}
 use Rattle.calls.specs.Perform.{AreBytes}
+use Rattle.tables.specs.Told.{ToldOtherPair}
 use Rattle.closing_sheet.specs.Sheet.{sheet_text, sheet_conditions, sheet_writing, sheet_written_to}
 
 abbrev pub sheet_answer : Pair → Buffers → List ℕ → ℕ
@@ -30,9 +30,8 @@ pub record WritesSheet (pair : Pair) (b : Buffers) (text : List ℕ) : Type 0 wh
   pub stays_bytes : Bytes text → Bytes (sheet_written_to pair b text)
 
 -- on a card of the other pair it is answered 8; where only the rule table is of the other pair, 9
-pub record SheetOtherPair (pair : Pair) (b : Buffers) (text : List ℕ) : Type 0 where
-  pub by_titles : LedgerHead b.ledger → TitlesHead (other_pair pair) b.titles → sheet_answer pair b text ≡ 8
-  pub by_rules : LedgerHead b.ledger → TitlesHead pair b.titles → RulesHead (other_pair pair) b.rules → sheet_answer pair b text ≡ 9
+abbrev pub SheetOtherPair : Pair → Buffers → List ℕ → Type 0
+SheetOtherPair pair b text = ToldOtherPair pair b.titles b.rules (7 needs LedgerHead b.ledger ∷ []) (written_answer (sheet_writing pair b text))
 
 -- the size that the C header has: room for any sheet
 abbrev pub sheet_size : ℕ

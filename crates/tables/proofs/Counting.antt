@@ -1,4 +1,4 @@
--- Counting the entries of which a test holds, from the first on, and when an entry is a copy of a title.
+-- Counting the entries of which a test holds, from the first on, and when an entry is a copy of a title or full with it.
 -- Assumes nothing.
 use Prim.Native.Nat.{ℕ, suc, ◌+◌, ◌-◌, ◌≤◌, ◌<◌}
 use mathlib.Core.Path.{◌≡◌, refl, sym, ap, ◌∙◌}
@@ -13,9 +13,9 @@ use Rattle.formats.specs.Entry.{kind_of}
 use Rattle.formats.proofs.Tests.{split, both, refuted}
 use Rattle.formats.specs.Facts.{numbered}
 use Rattle.formats.proofs.facts.Laws.{numbered_range}
-use Rattle.formats.proofs.entry.Laws.{IsCopy, of_copy, copy_beside}
-use Rattle.calls.specs.Buffers.{is_copy, copy_of, one, total}
-use Rattle.calls.proofs.Passed.{is_copy_lem}
+use Rattle.formats.proofs.entry.Laws.{Sound, IsCopy, IsFull, of_copy, of_full, copy_beside, full_beside}
+use Rattle.calls.specs.Buffers.{is_copy, is_full, copy_of, full_with, one, total}
+use Rattle.calls.proofs.Passed.{is_copy_lem, is_full_lem}
 use Rattle.calls.proofs.Refusals.{holds_not}
 
 -- n of the entries before j pass
@@ -80,30 +80,72 @@ three {p} {j} {n} r h =
 pub three_over : {p : ℕ → Bool} {j n : ℕ} → Counted p j n → j ≤ 997 → false ≡ p j → false ≡ p (j + 1) → false ≡ p (j + 2) → Counted p (j + 3) n
 three_over {p} {j} {n} r h e1 e2 e3 = moved (three r h) refl (omega (arith, ap one e1, ap one e2, ap one e3))
 
--- what a copy of c has
+-- what a copy of c has, and what is full with it
 module _ (c : ℕ) (t r : List ℕ) where
   copy_says : copy_of c t r ≡ true → IsCopy t r × (id_of t ≡ c)
   copy_says e =
       let (k, i) = split (is_copy (kind_of t r)) (eqb (id_of t) c) e in
       (of_copy t r (is_copy_lem (kind_of t r) (holds_not k)), eqb-true (id_of t) c i)
 
+  full_says : full_with c t r ≡ true → IsFull t r × (id_of t ≡ c)
+  full_says e =
+      let (k, i) = split (is_full (kind_of t r)) (eqb (id_of t) c) e in
+      (of_full t r (is_full_lem (kind_of t r) (holds_not k)), eqb-true (id_of t) c i)
+
   -- flag and ID among it
-  copy_flagged : copy_of c t r ≡ true → flagged_with c t ≡ true
+  sound_flagged : Sound t → id_of t ≡ c → flagged_with c t ≡ true
   unfolding flagged_with
-  copy_flagged e =
-      let (k, i) = copy_says e in
-      let s = k.title_sound in
-      both (both (le-leb 1 c (omega (arith, s.id_from))) (le-leb c 999 (omega (arith, s.id_to)))) (both s.usable (eq-eqb (id_of t) c i))
+  sound_flagged s i = both (both (le-leb 1 c (omega (arith, s.id_from))) (le-leb c 999 (omega (arith, s.id_to)))) (both s.usable (eq-eqb (id_of t) c i))
 
-  -- so what lacks them is none
-  pub not_held : false ≡ flagged_with c t → false ≡ copy_of c t r
-  not_held f = sym (refuted (λ e. true≢false (sym (copy_flagged e) ∙ sym f)))
+  -- so what lacks them is neither
+  module _ (lacks : false ≡ flagged_with c t) where
+    pub not_copy : false ≡ copy_of c t r
+    not_copy =
+        sym
+        (refuted
+        (λ e.
+        let (k, i) = copy_says e in
+        true≢false (sym (sound_flagged k.title_sound i) ∙ sym lacks)))
 
-  -- nor what has CCI 1
-  pub reserved : cci_of t ≡ 1 → false ≡ copy_of c t r
-  reserved one = sym (refuted (λ e. (copy_says e).0.title_sound.cci_not_one one))
+    pub not_full : false ≡ full_with c t r
+    not_full =
+        sym
+        (refuted
+        (λ e.
+        let (k, i) = full_says e in
+        true≢false (sym (sound_flagged k.title_sound i) ∙ sym lacks)))
 
-  -- with its flag and the ID of c and a sound title half it goes by the rule half
+  -- and so is what has CCI 1
+  module _ (one : cci_of t ≡ 1) where
+    pub reserved_copy : false ≡ copy_of c t r
+    reserved_copy = sym (refuted (λ e. (copy_says e).0.title_sound.cci_not_one one))
+
+    pub reserved_full : false ≡ full_with c t r
+    reserved_full = sym (refuted (λ e. (full_says e).0.title_sound.cci_not_one one))
+
+  -- with its flag and the ID of c and a sound title half it goes by the rule half: full where that has both too ..
+  pub full_by_rule : flagged_with c t ≡ true → (cci_of t ≡ 1 → ⊥) → flagged_with c r ≡ full_with c t r
+  unfolding flagged_with
+  full_by_rule marked not_one =
+      let (named, used) = split (numbered c) (usable_of t && eqb (id_of t) c) marked in
+      let (usable, same) = split (usable_of t) (eqb (id_of t) c) used in
+      let (from, to) = numbered_range c named in
+      by named usable (eqb-true (id_of t) c same) to (usable_of r && eqb (id_of r) c) refl
+    where
+      by : numbered c ≡ true → usable_of t ≡ true → id_of t ≡ c → c ≤ 999 → (b : Bool) → (usable_of r && eqb (id_of r) c) ≡ b
+          → (numbered c && (usable_of r && eqb (id_of r) c)) ≡ full_with c t r
+      by n u i few true e =
+          let (rule, own) = split (usable_of r) (eqb (id_of r) c) e in
+          both n e ∙ sym (both (ap is_full (full_beside t r u (omega arith) not_one rule (i ∙ sym (eqb-true (id_of r) c own)))) (eq-eqb (id_of t) c i))
+      by n u i few false e =
+          ap (λ (x : Bool). numbered c && x) e ∙ ap (λ (x : Bool). x && false) n
+          ∙ sym
+          (refuted
+          (λ f.
+          let (k, _) = full_says f in
+          true≢false (sym (both k.rule_usable (eq-eqb (id_of r) c (sym k.same_id ∙ i))) ∙ e)))
+
+  -- .. and a copy where it is not usable
   pub by_rule : flagged_with c t ≡ true → (cci_of t ≡ 1 → ⊥) → not (usable_of r) ≡ copy_of c t r
   unfolding flagged_with
   by_rule marked not_one =

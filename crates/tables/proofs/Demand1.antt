@@ -1,25 +1,23 @@
 -- Demand 1 of formatting and of the tally.
 -- Assumes nothing.
 use Prim.Native.Nat.{ℕ, ◌+◌, ◌*◌}
-use mathlib.Core.Path.{◌≡◌, refl, sym, ap, ◌∙◌}
-use mathlib.Core.Logic.{inl, inr}
+use mathlib.Core.Path.{◌≡◌, refl, sym, ◌∙◌}
 use mathlib.Core.List.{List, [], ◌∷◌}
 use mathlib.Core.Bool.{Bool, true, false, not, cond}
-use native.Mathlib.Decide.{ℕ_discrete}
 use lib.Dec.{eqb}
 use lib.ListN.{length}
-use borrow.Author.Tests.{eq-eqb, ne_eqb, eqb-true, not-false}
+use borrow.Author.Tests.{eqb-true, not-false}
 use Rattle.formats.specs.declared.head.Pair.{Pair}
-use Rattle.formats.specs.Answer.{done, refused}
 use Rattle.formats.specs.Bytes.{Bytes}
 use Rattle.formats.specs.Head.{fresh_titles, fresh_rules}
 use Rattle.formats.proofs.head.Laws.{fresh_ledger_length, fresh_titles_length, fresh_rules_length, fresh_ledger_bytes, fresh_titles_bytes, fresh_rules_bytes}
-use Rattle.calls.specs.Buffers.{copies}
+use Rattle.calls.specs.Buffers.{copies, Within}
+use Rattle.calls.specs.Needs.{◌needs◌}
 use Rattle.tables.specs.Format.{ledger_conditions, ledger_formatting, formatted_ledger, card_conditions, card_formatting, formatted_titles, formatted_rules}
-use Rattle.tables.specs.Tally.{tally_conditions, tally_refusal, tallied}
-use Rattle.tables.specs.Demand1.{FormatsLedger, FormatsCard, Tallies, TalliesOtherPair, Demand1Tables}
+use Rattle.tables.specs.Tally.{tallied}
+use Rattle.tables.proofs.Told.{told_first, told_other_pair}
+use Rattle.tables.specs.Demand1.{FormatsLedger, FormatsCard, Tallies, Demand1Tables}
 use Rattle.calls.proofs.Refusals.{refused_first, either_way}
-use Rattle.calls.proofs.Pairs.{other_titles, other_rules}
 use Rattle.calls.proofs.Passed.{end, ◌then◌, answered_by, tests_number, tests_same, tests_titles, tests_rule_head}
 
 -- a test of a length that does not refuse
@@ -58,34 +56,11 @@ formats_card pair titles rules application =
     both_or_none true = refl
     both_or_none false = refl
 
--- the number and the values of an answer that has values where it is no refusal
-number_is : (n : ℕ) (values : List ℕ) → (cond (eqb n 0) (done values) (refused n)).number ≡ n
-number_is n values = elim (ℕ_discrete n 0) [ yes zero ↦ rw (eq-eqb n 0 zero) (sym zero) | no other ↦ rw (ne_eqb n 0 other) ]
-
-values_are : (x : Bool) (n : ℕ) (values : List ℕ) → (cond x (done values) (refused n)).values ≡ cond x values []
-values_are true n values = refl
-values_are false n values = refl
-
 tallies : (pair : Pair) (titles rules : List ℕ) (c : ℕ) → Tallies pair titles rules c
-unfolding tallied tally_refusal
+unfolding tallied
 tallies pair titles rules c =
-    let n = tally_refusal pair titles rules c in
-    let values = copies c titles rules ∷ [] in
-    record {
-      refused_first =
-          refused_first (tally_conditions pair titles rules c) refl refl (number_is n values)
-          (values_are (eqb n 0) n values ∙ ap (λ (m : ℕ). cond (eqb m 0) values []) (sym (number_is n values)));
-      answered = answered_by (tests_number c then tests_titles pair titles then tests_rule_head pair rules then end) refl (number_is n values);
-    }
-
-tallies_other_pair : (pair : Pair) (titles rules : List ℕ) (c : ℕ) → TalliesOtherPair pair titles rules c
-tallies_other_pair pair titles rules c =
-    let answered = (tallies pair titles rules c).answered in
-    record {
-      by_titles = λ numbered t. answered.refused 8 (inr (numbered, inl (other_titles pair titles t, refl)));
-      by_rules = λ numbered t r. answered.refused 9 (inr (numbered, inr (t, inl (other_rules pair rules r, refl))));
-    }
+    told_first (copies c titles rules ∷ []) (tests_number c then tests_titles pair titles then tests_rule_head pair rules then end) refl refl
 
 -- DEMAND 1
 pub demand_1_tables : Demand1Tables
-demand_1_tables = record { ledger = formats_ledger; card = formats_card; tally = tallies; of_other_pair = tallies_other_pair }
+demand_1_tables = record { ledger = formats_ledger; card = formats_card; tally = tallies; of_other_pair = λ pair titles rules c. told_other_pair pair titles rules (4 needs Within 999 c ∷ []) _ (λ h. h) (tallies pair titles rules c).answered }

@@ -11,10 +11,10 @@ use borrow.Author.Tests.{eq-eqb, ne_eqb}
 use lib.ListN.{length}
 use Rattle.formats.specs.Half.{flagged_with}
 use Rattle.calls.specs.Buffers.{title_at, rule_at, one, first_of, copies, first_copy, entries_searched}
-use Rattle.tables.specs.Copies.{copy_at, may_hold, in_three, first_of_three}
+use Rattle.tables.specs.Copies.{copy_at, full_at, may_hold, in_three, first_of_three}
 use Rattle.calls.proofs.First.{first_at_most, first_after, none_after}
 use Rattle.calls.proofs.Report.{no_copies, no_first_copy, searched_first, searched_all}
-use Rattle.tables.proofs.Counting.{Counted, three, three_over, moved, not_held}
+use Rattle.tables.proofs.Counting.{Counted, three, three_over, moved, not_copy, not_full}
 
 -- neither part of an alternative that fails holds
 neither : (a b : Bool) → false ≡ (a || b) → (false ≡ a) × (false ≡ b)
@@ -25,34 +25,40 @@ few : (b : Bool) → one b ≤ 1
 few true = omega arith
 few false = omega arith
 
-module _ (c : ℕ) (titles rules : List ℕ) (j : ℕ) where
-  -- where none may be a copy, none is
-  none_held : false ≡ may_hold c titles j
-      → (false ≡ copy_at c titles rules j) × ((false ≡ copy_at c titles rules (j + 1)) × (false ≡ copy_at c titles rules (j + 2)))
+-- three are three at most
+pub at_most_three : (t : ℕ → Bool) (j : ℕ) → in_three t j ≤ 3
+unfolding in_three
+at_most_three t j = omega (arith, few (t j), few (t (j + 1)), few (t (j + 2)))
+
+-- a test that holds of no entry without the flag and the ID of c
+abbrev pub NeedsFlag : ℕ → List ℕ → (ℕ → Bool) → Type 0
+NeedsFlag c titles t = (i : ℕ) → false ≡ flagged_with c (title_at titles i) → false ≡ t i
+
+pub copy_needs_flag : (c : ℕ) (titles rules : List ℕ) → NeedsFlag c titles (copy_at c titles rules)
+copy_needs_flag c titles rules i = not_copy c (title_at titles i) (rule_at rules i)
+
+pub full_needs_flag : (c : ℕ) (titles rules : List ℕ) → NeedsFlag c titles (full_at c titles rules)
+full_needs_flag c titles rules i = not_full c (title_at titles i) (rule_at rules i)
+
+module _ (c : ℕ) (titles : List ℕ) {t : ℕ → Bool} (needs : NeedsFlag c titles t) where
+  -- where it may hold of none of three, it holds of none
+  none_held : (j : ℕ) → false ≡ may_hold c titles j → (false ≡ t j) × ((false ≡ t (j + 1)) × (false ≡ t (j + 2)))
   unfolding may_hold
-  none_held e =
+  none_held j e =
       let (_, flags) = neither (not (eqb (length titles) 16000)) (flagged_with c (title_at titles j) || (flagged_with c (title_at titles (j + 1)) || flagged_with c (title_at titles (j + 2)))) e in
       let (first, rest) = neither (flagged_with c (title_at titles j)) (flagged_with c (title_at titles (j + 1)) || flagged_with c (title_at titles (j + 2))) flags in
-      let (second, third) = neither (flagged_with c (title_at titles (j + 1))) (flagged_with c (title_at titles (j + 2))) rest in (
-        not_held c (title_at titles j) (rule_at rules j) first,
-        (not_held c (title_at titles (j + 1)) (rule_at rules (j + 1)) second, not_held c (title_at titles (j + 2)) (rule_at rules (j + 2)) third),
-      )
+      let (second, third) = neither (flagged_with c (title_at titles (j + 1))) (flagged_with c (title_at titles (j + 2))) rest in
+      (needs j first, (needs (j + 1) second, needs (j + 2) third))
 
-  -- three are three at most
-  pub at_most_three : in_three c titles rules j ≤ 3
-  unfolding in_three
-  at_most_three = omega (arith, few (copy_at c titles rules j), few (copy_at c titles rules (j + 1)), few (copy_at c titles rules (j + 2)))
-
--- a turn of a loop over the threes: the three from entry 3k + 1 on are counted, or they hold none
-module _ (c : ℕ) (titles rules : List ℕ) {k n m : ℕ} (r : Counted (copy_at c titles rules) (3 * k + 1) n) (within : k < 333) where
-  pub all_three : m ≡ n + in_three c titles rules (3 * k + 1) → Counted (copy_at c titles rules) (3 * (k + 1) + 1) m
-  unfolding in_three
-  all_three e = moved (three r (omega arith)) (omega arith) (sym e)
-
-  pub none_of_three : false ≡ may_hold c titles (3 * k + 1) → m ≡ n → Counted (copy_at c titles rules) (3 * (k + 1) + 1) m
-  none_of_three held e =
-      let (first, (second, third)) = none_held c titles rules (3 * k + 1) held in
+  pub none_of_three : {k n m : ℕ} → Counted t (3 * k + 1) n → k < 333 → false ≡ may_hold c titles (3 * k + 1) → m ≡ n → Counted t (3 * (k + 1) + 1) m
+  none_of_three {k} r within held e =
+      let (first, (second, third)) = none_held (3 * k + 1) held in
       moved (three_over r (omega arith) first second third) (omega arith) (sym e)
+
+-- a turn of a loop over the threes: the three from entry 3k + 1 on are counted, or, above, they hold none
+pub all_three : {t : ℕ → Bool} {k n m : ℕ} → Counted t (3 * k + 1) n → k < 333 → m ≡ n + in_three t (3 * k + 1) → Counted t (3 * (k + 1) + 1) m
+unfolding in_three
+all_three r within e = moved (three r (omega arith)) (omega arith) (sym e)
 
 -- the first of three, tried in turn
 module _ (t : ℕ → Bool) where
@@ -112,7 +118,7 @@ module _ (c : ℕ) (titles rules : List ℕ) {k : ℕ} (z : first_of (3 * k) (co
   -- as where none may be one
   pub none_may_be : false ≡ may_hold c titles (3 * k + 1) → first_of (3 * (k + 1)) (copy_at c titles rules) ≡ 0
   none_may_be held =
-      let (first, (second, third)) = none_held c titles rules (3 * k + 1) held in
+      let (first, (second, third)) = none_held c titles (copy_needs_flag c titles rules) (3 * k + 1) held in
       let second_place : 3 * k + 1 + 1 ≡ 3 * k + 2 = omega arith in
       let third_place : 3 * k + 1 + 2 ≡ 3 * k + 3 = omega arith in
       not_there (none_of_3 (λ i. copy_at c titles rules (3 * k + i)) (sym first) (rw second_place at (sym second)) (rw third_place at (sym third)))

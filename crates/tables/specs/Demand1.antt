@@ -7,9 +7,9 @@ use Rattle.formats.specs.Head.{TitlesHead, RulesHead, fresh_ledger, fresh_titles
 use Rattle.calls.specs.Buffers.{copies, Within}
 use Rattle.calls.specs.Refusal.{RefusedFirst}
 use Rattle.calls.specs.Needs.{◌needs◌, AnsweredBy}
-use Rattle.calls.specs.Pairs.{other_pair}
 use Rattle.tables.specs.Format.{ledger_conditions, ledger_formatting, formatted_ledger, card_conditions, card_formatting, formatted_titles, formatted_rules}
 use Rattle.tables.specs.Tally.{tally_conditions, tallied}
+use Rattle.tables.specs.Told.{ToldFirst, ToldOtherPair}
 
 -- "Formatting tests 4, then exact lengths by 7, 8 and 9, and looks at no bytes.": a ledger
 pub record FormatsLedger (ledger : List ℕ) (rows application : ℕ) : Type 0 where
@@ -27,16 +27,14 @@ pub record FormatsCard (pair : Pair) (titles rules : List ℕ) (application : �
   pub same_lengths : (length (formatted_titles pair titles rules) ≡ length titles) × (length (formatted_rules pair titles rules application) ≡ length rules)
   pub stay_bytes : Bytes titles → Bytes rules → Bytes (formatted_titles pair titles rules) × Bytes (formatted_rules pair titles rules application)
 
--- the tally: a refusal has no value
-pub record Tallies (pair : Pair) (titles rules : List ℕ) (c : ℕ) : Type 0 where
-  pub refused_first : RefusedFirst (List ℕ) (4 ∷ 8 ∷ 9 ∷ []) (tally_conditions pair titles rules c) (tallied pair titles rules c).number
-      [] (tallied pair titles rules c).values (copies c titles rules ∷ [])
-  pub answered : AnsweredBy (4 needs Within 999 c ∷ 8 needs TitlesHead pair titles ∷ 9 needs RulesHead pair rules ∷ []) (tallied pair titles rules c).number
+-- the tally
+abbrev pub Tallies : Pair → List ℕ → List ℕ → ℕ → Type 0
+Tallies pair titles rules c =
+    ToldFirst (4 ∷ 8 ∷ 9 ∷ []) (tally_conditions pair titles rules c)
+    (4 needs Within 999 c ∷ 8 needs TitlesHead pair titles ∷ 9 needs RulesHead pair rules ∷ []) (tallied pair titles rules c) (copies c titles rules ∷ [])
 
--- on a card of the other pair a tally is answered 8; where only the rule table is of the other pair, 9
-pub record TalliesOtherPair (pair : Pair) (titles rules : List ℕ) (c : ℕ) : Type 0 where
-  pub by_titles : Within 999 c → TitlesHead (other_pair pair) titles → (tallied pair titles rules c).number ≡ 8
-  pub by_rules : Within 999 c → TitlesHead pair titles → RulesHead (other_pair pair) rules → (tallied pair titles rules c).number ≡ 9
+abbrev pub TalliesOtherPair : Pair → List ℕ → List ℕ → ℕ → Type 0
+TalliesOtherPair pair titles rules c = ToldOtherPair pair titles rules (4 needs Within 999 c ∷ []) (tallied pair titles rules c)
 
 -- DEMAND 1, of formatting and tally
 pub record Demand1Tables : Type 0 where

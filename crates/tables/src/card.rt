@@ -1,16 +1,20 @@
 // A card, to be read: its title table and its rule table. An entry is its two halves, the parts of the tables that they occupy.
 ghost use Rattle.std.specs.Prelude.{◌≡◌, ◌&&◌};
+ghost use Rattle.formats.specs.Refusal.{answer_number};
 ghost use Rattle.formats.specs.Half.{id_of};
 ghost use Rattle.formats.specs.Rule.{trigger_of, rights_of, hash_of};
 ghost use Rattle.formats.specs.Entry.{kind_of, is_vacant, entry_facts};
 ghost use Rattle.calls.specs.Buffers.{title_at, rule_at};
 ghost use Rattle.calls.specs.Conditions.{leaves_key, looks_at_f2, may_not_move};
+ghost use Rattle.calls.specs.Refusal.{first};
+ghost use Rattle.tables.specs.Told.{card_head_conditions};
 
 use calls::count;
 use formats::entry::{Entry, EntryKind};
 use formats::facts::{ContentId, EntryNumber, Facts};
 use formats::head::Pair;
-use formats::{half, rule, table};
+use formats::refusal::Refusal;
+use formats::{half, head, rule, table};
 
 #[derive(Clone, Copy)]
 pub struct Card<'a> {
@@ -19,6 +23,15 @@ pub struct Card<'a> {
 }
 
 impl<'a> Card<'a> {
+    // Done where the heads of both tables are right, which a call without a ledger tests before it looks at an entry.
+    #[tactic(auto, unfolding(calls::specs::Refusal::first))]
+    pub fn check_heads(self, pair: Pair) -> Result<(), Refusal>
+        ensures { answer_number result ≡ first (card_head_conditions pair self.entry.titles.now self.entry.rules.now) }
+    {
+        head::check_titles(pair, self.titles)?;
+        head::check_rules(pair, self.rules)
+    }
+
     pub fn title_half(self, entry: EntryNumber) -> &'a [u8]
         ensures { result.now ≡ title_at self.entry.titles.now entry.0 }
     {

@@ -34,6 +34,8 @@ use Rattle.calls.proofs.History.Always.{history}
 use Rattle.tables.proofs.Demand1.{demand_1_tables}
 use Rattle.tables.proofs.History.{formatted_history}
 use Rattle.text.proofs.Forms.{decimal_form}
+use Rattle.inspection.proofs.Demand1.{demand_1_inspection}
+use Rattle.inspection.proofs.History.{inspects_one}
 use Rattle.closing_sheet.proofs.Demand1.{demand_1_sheet}
 use Rattle.closing_sheet.proofs.Shows.{sheet_shows}
 use Rattle.closing_sheet.proofs.History.{sheet_adds_up}
@@ -92,6 +94,7 @@ demands =
             of_other_pair = of_other_pair;
             picture_by_f1 = picture_by_f1;
             tables = demand_1_tables;
+            inspection = demand_1_inspection;
             sheet = demand_1_sheet;
             requests = demand_1_requests;
             numbers = number_refused;
@@ -119,6 +122,7 @@ demands =
             served = served_history;
             previews = previews_in_lists;
             sheet_adds_up = sheet_adds_up;
+            inspects_one = inspects_one;
             entries_tell = entries_tell;
           };
     }

@@ -25,6 +25,8 @@ use Rattle.calls.specs.Steps.{PreviewsInLists}
 use Rattle.tables.specs.Demand1.{Demand1Tables}
 use Rattle.tables.specs.History.{FormattedHistory}
 use Rattle.text.specs.Forms.{DecimalForm}
+use Rattle.inspection.specs.Demand1.{Demand1Inspection}
+use Rattle.inspection.specs.History.{InspectsOne}
 use Rattle.closing_sheet.specs.Demand1.{Demand1Sheet}
 use Rattle.closing_sheet.specs.Shows.{SheetShows}
 use Rattle.closing_sheet.specs.History.{SheetAddsUp}
@@ -61,6 +63,8 @@ pub record Demand1 : Type 0 where
   pub picture_by_f1 : PictureByF1
   -- formatting and tally
   pub tables : Demand1Tables
+  -- inspection, what it shows as facts, and that a later rule version is inspected like any other
+  pub inspection : Demand1Inspection
   -- the closing sheet
   pub sheet : Demand1Sheet
   -- requests that are read and written, and where the bytes are no number
@@ -88,13 +92,14 @@ pub record Demand2 : Type 0 where
 
 -- 3: one claim about every list of calls from a fresh ledger and card; of what formatting leaves; of every stream that is served; with
 -- previews between the calls, which are none, and what is committed as it was previewed; that by it the numbers on the sheet add up;
--- and which entry once had which loan
+-- that each title inspects as one holder; and which entry once had which loan
 pub record Demand3 : Type 0 where
   pub history : History
   pub formatted : FormattedHistory
   pub served : ServedHistory
   pub previews : PreviewsInLists
   pub sheet_adds_up : SheetAddsUp
+  pub inspects_one : InspectsOne
   pub entries_tell : EntriesTell
 
 pub record Demands : Type 0 where

@@ -1,4 +1,4 @@
 pub mod Given
 pub mod Requests
-pub mod Tally
+pub mod Told
 pub mod Demands

@@ -1,14 +1,14 @@
-// What a till written in C calls: formatting, the seven calls, the tally, the closing sheet, and reading, writing, performing and
-// previewing requests, over its own buffers, plain numbers and a bool for the pair. Formatting, the calls and preview hand on what they
-// are given, as the types that those below take. Performing a request goes to the C function of its kind. Move in, tally, sheet, reading
-// and writing also put numbers into the places that they are lent. A request is given as a kind and arguments, and a kind is any number
-// in C. What travels together below stands in parameters of its own here, and answers are numbers, since C has them so.
-// include/music_counter.h has the same fifteen in C.
+// What a till written in C calls: formatting, the seven calls, the tally, inspection, the closing sheet, and reading, writing, performing
+// and previewing requests, over its own buffers, plain numbers and a bool for the pair. Formatting, the calls and preview hand on what
+// they are given, as the types that those below take. Performing a request goes to the C function of its kind. Move in, tally, inspection,
+// sheet, reading and writing also put numbers into the places that they are lent. A request is given as a kind and arguments, and a kind
+// is any number in C. What travels together below stands in parameters of its own here, and answers are numbers, since C has them so.
+// include/music_counter.h has the same nineteen in C.
 #![tactic(auto)]
 
 pub mod given;
 
-ghost use Rattle.std.specs.Prelude.{◌≡◌, map};
+ghost use Rattle.std.specs.Prelude.{◌≡◌, ◌∷◌, map};
 ghost use Rattle.std.specs.Result.{result_unwrap_or};
 ghost use Rattle.formats.specs.Refusal.{answer_number};
 ghost use Rattle.requests.specs.declared.request.Request.TheVariants.{Register, Record, CheckOut, CheckIn, MoveOut, MoveIn, Delete};
@@ -16,11 +16,13 @@ ghost use Rattle.calls.specs.Buffers.{buffers_of};
 ghost use Rattle.calls.specs.Report.{move_in_report};
 ghost use Rattle.tables.specs.Format.{ledger_formatting, formatted_ledger, card_formatting, formatted_titles, formatted_rules};
 ghost use Rattle.tables.specs.Tally.{tallied};
+ghost use Rattle.formats.specs.Facts.{fact_values};
+ghost use Rattle.inspection.specs.Inspect.{entry_values, state_told, entry_inspected, row_inspected, title_inspected, vacancy};
 ghost use Rattle.closing_sheet.specs.Sheet.{sheet_writing, sheet_written_to};
 ghost use Rattle.music_counter.specs.Answer.{Answers, AnswersByLedger};
 ghost use Rattle.music_counter.specs.Preview.{AnswersGiven, AnswersPreview};
 ghost use Rattle.till.specs.Given.{pair_of, request_given, title, place, facts, fillers};
-ghost use Rattle.till.specs.Tally.{copies_after};
+ghost use Rattle.till.specs.Told.{value_after, facts_after};
 ghost use Rattle.requests.specs.Number.{written_answer};
 ghost use Rattle.requests.specs.Request.{read_request, request_answer};
 ghost use Rattle.till.specs.Demands.{Demands};
@@ -33,6 +35,8 @@ use formats::facts::{ContentId, EntryNumber, Facts, Fillers};
 use formats::head::Pair;
 use formats::refusal;
 use formats::refusal::Refusal;
+use formats::row::RowState;
+use inspection::EntryContents;
 use music_counter::preview::Given;
 use music_counter::{check_in, check_out, delete, move_in, move_out, preview, record, register};
 use requests::request;
@@ -65,6 +69,54 @@ fn tell<T: Copy + Drop>(found: Result<T, Refusal>, place: &mut T) -> u64
             0
         }
         Err(refusal) => u64::from(refusal),
+    }
+}
+
+// The six facts as numbers, in their order.
+fn fact_values(facts: Facts) -> [u64; 6]
+    ensures { result ≡ fact_values facts }
+{
+    [
+        facts.cci,
+        facts.trigger,
+        facts.rights,
+        facts.permits,
+        facts.title_key,
+        facts.sti_key,
+    ]
+}
+
+// Puts an entry's kind, its content ID and its facts into the places that are lent for them, each case by itself: with one store for all
+// of them the compiler carries eight numbers to it, and the call takes an eighth longer.
+fn tell_entry(found: EntryContents, kind: &mut u64, content: &mut u64, facts: &mut [u64; 6])
+    ensures { kind.new ∷ content.new ∷ facts.new ≡ entry_values found }
+{
+    match found {
+        EntryContents::Free => (*kind, *content, *facts) = (0, 0, [0; 6]),
+        EntryContents::Copy {
+            content: id,
+            cci,
+            title_key,
+        } => (*kind, *content, *facts) = (1, id.0, [cci, 0, 0, 0, title_key, 0]),
+        EntryContents::Full {
+            content: id,
+            facts: found,
+        } => (*kind, *content, *facts) = (2, id.0, fact_values(found)),
+        EntryContents::Torn => (*kind, *content, *facts) = (3, 0, [0; 6]),
+        EntryContents::Spent { content: id } => (*kind, *content, *facts) = (4, id.0, [0; 6]),
+    }
+}
+
+// The same of a row, its state and its facts.
+fn tell_row(found: RowState, state: &mut u64, facts: &mut [u64; 6])
+    ensures { state.new ∷ facts.new ≡ state_told found }
+{
+    match found {
+        RowState::Empty => (*state, *facts) = (0, [0; 6]),
+        RowState::Here(found) => (*state, *facts) = (1, fact_values(found)),
+        RowState::Away => (*state, *facts) = (2, [0; 6]),
+        RowState::Gone => (*state, *facts) = (3, [0; 6]),
+        RowState::NoState => (*state, *facts) = (4, [0; 6]),
     }
 }
 
@@ -308,10 +360,105 @@ pub extern "C" fn counter_tally(
 ) -> u64
     ensures answer { result ≡ (tallied (pair_of pair) titles.now rules.now content).number }
     ensures copies_told { copies.new
-        ≡ copies_after (tallied (pair_of pair) titles.now rules.now content) copies.old }
+        ≡ value_after 0 (tallied (pair_of pair) titles.now rules.now content) copies.old }
 {
     let found = tally::tally(pair_of(pair), Card { titles, rules }, ContentId(content));
     tell(found, copies)
+}
+
+// Answers 0, or 5, 8 or 9 with `kind`, `content` and `facts` as they were.
+#[unsafe(no_mangle)]
+pub extern "C" fn counter_inspect_entry(
+    pair: bool,
+    titles: &[u8],
+    rules: &[u8],
+    entry: u64,
+    kind: &mut u64,
+    content: &mut u64,
+    facts: &mut [u64; 6],
+) -> u64
+    ensures answer { result ≡ (entry_inspected (pair_of pair) titles.now rules.now entry).number }
+    ensures kind_told { kind.new
+        ≡ value_after 0 (entry_inspected (pair_of pair) titles.now rules.now entry) kind.old }
+    ensures content_told { content.new
+        ≡ value_after 1 (entry_inspected (pair_of pair) titles.now rules.now entry) content.old }
+    ensures facts_told { facts.new
+        ≡ facts_after 2 (entry_inspected (pair_of pair) titles.now rules.now entry) facts.old }
+{
+    match inspection::entry(pair_of(pair), Card { titles, rules }, EntryNumber(entry)) {
+        Ok(found) => {
+            tell_entry(found, kind, content, facts);
+            0
+        }
+        Err(refusal) => u64::from(refusal),
+    }
+}
+
+// Answers 0, or 4, 7 or 11 with `state` and `facts` as they were.
+#[unsafe(no_mangle)]
+pub extern "C" fn counter_inspect_row(
+    ledger: &[u8],
+    content: u64,
+    state: &mut u64,
+    facts: &mut [u64; 6],
+) -> u64
+    ensures answer { result ≡ (row_inspected ledger.now content).number }
+    ensures state_told { state.new ≡ value_after 0 (row_inspected ledger.now content) state.old }
+    ensures facts_told { facts.new ≡ facts_after 1 (row_inspected ledger.now content) facts.old }
+{
+    match inspection::row(ledger, ContentId(content)) {
+        Ok(found) => {
+            tell_row(found, state, facts);
+            0
+        }
+        Err(refusal) => u64::from(refusal),
+    }
+}
+
+// Answers 0, or 4, 7, 8, 9 or 11 with `holders` and `copies` as they were.
+#[unsafe(no_mangle)]
+pub extern "C" fn counter_inspect_title(
+    pair: bool,
+    ledger: &[u8],
+    titles: &[u8],
+    rules: &[u8],
+    content: u64,
+    holders: &mut u64,
+    copies: &mut u64,
+) -> u64
+    ensures answer { result
+        ≡ (title_inspected (pair_of pair) (buffers_of ledger.now titles.now rules.now) content).number }
+    ensures holders_told { holders.new
+        ≡ value_after 0 (title_inspected (pair_of pair) (buffers_of ledger.now titles.now rules.now) content) holders.old }
+    ensures copies_told { copies.new
+        ≡ value_after 1 (title_inspected (pair_of pair) (buffers_of ledger.now titles.now rules.now) content) copies.old }
+{
+    let shop = Shop::new(ledger, titles, rules);
+    match inspection::title(pair_of(pair), shop, ContentId(content)) {
+        Ok(found) => {
+            *holders = found.holders;
+            *copies = found.copies;
+            0
+        }
+        Err(refusal) => u64::from(refusal),
+    }
+}
+
+// Answers 0, or 5, 8 or 9 with `entry` as it was.
+#[unsafe(no_mangle)]
+pub extern "C" fn counter_first_vacant(
+    pair: bool,
+    titles: &[u8],
+    rules: &[u8],
+    from: u64,
+    entry: &mut u64,
+) -> u64
+    ensures answer { result ≡ (vacancy (pair_of pair) titles.now rules.now from).number }
+    ensures entry_told { entry.new
+        ≡ value_after 0 (vacancy (pair_of pair) titles.now rules.now from) entry.old }
+{
+    let found = inspection::first_vacant(pair_of(pair), Card { titles, rules }, EntryNumber(from));
+    tell(found, entry)
 }
 
 // Answers 0, or 7, 8, 9 or 1 with nothing changed.

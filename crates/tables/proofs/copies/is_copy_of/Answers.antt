@@ -2,7 +2,7 @@
 -- Assumes nothing.
 use Rattle.std.proofs.Common.{sym, ap, ◌∙◌, not, true≢false}
 use borrow.Author.Tests.{eqb-true, eqb-false, not-true, not-false}
-use Rattle.tables.proofs.Counting.{not_held, reserved, by_rule}
+use Rattle.tables.proofs.Counting.{not_copy, reserved_copy, by_rule}
 use Rattle.tables.proofs.copies.is_copy_of.Goals as goal
 use Rattle.tables.proofs.copies.is_copy_of.Goals.{then-is_flagged, else-is_flagged}
 
@@ -20,6 +20,6 @@ pub returns-else-cci-ne1 : goal.returns-else-cci-ne1
 returns-else-cci-ne1 c =
     c.if-cci-ne1.false
     ∙ elim c.if-is_flagged.branch [
-      | then-is_flagged w ↦ reserved _ _ _ (sym w.cci.ensures ∙ eqb-true _ _ (not-false _ (sym w.value-is ∙ c.if-cci-ne1.false)))
-      | else-is_flagged w ↦ not_held _ _ _ (sym w.if-is_flagged.false ∙ c.is_flagged.ensures)
+      | then-is_flagged w ↦ reserved_copy _ _ _ (sym w.cci.ensures ∙ eqb-true _ _ (not-false _ (sym w.value-is ∙ c.if-cci-ne1.false)))
+      | else-is_flagged w ↦ not_copy _ _ _ (sym w.if-is_flagged.false ∙ c.is_flagged.ensures)
     ]

@@ -1,0 +1,32 @@
+-- What inspection tells after a list of calls of demand 3: each title that was granted and not deleted has one holder, and as many copies as
+-- loans that are out.
+use Rattle.std.specs.Prelude.{ℕ, ◌+◌, ◌^◌, ◌<◌, ◌≡◌, ◌≢◌, List, [], ◌∷◌}
+use Rattle.std.proofs.Math.Option.{some}
+use Rattle.formats.specs.Answer.{done}
+use Rattle.formats.specs.declared.head.Pair.{Pair}
+use Rattle.formats.specs.declared.facts.Facts.{Facts}
+use Rattle.requests.specs.declared.request.Request.{Request}
+use Rattle.calls.specs.Buffers.{Buffers, Within}
+use Rattle.calls.specs.History.{Run, Action, checked_out, checked_in, copy_deleted, holder_deleted, actions, times, grant, start, run}
+use Rattle.inspection.specs.Inspect.{title_inspected}
+
+-- "exactly one holder", and copies: the check-outs that were neither checked in nor deleted
+pub record OneHolder (pair : Pair) (c : ℕ) (acts : List Action) (b : Buffers) : Type 0 where
+  pub out : ℕ
+  pub inspected : title_inspected pair b c ≡ done (1 ∷ out ∷ [])
+  pub loans : times checked_out acts ≡ out + times checked_in acts + times copy_deleted acts
+
+-- title c, of which acts were done; "If its holder was deleted, it has neither holder nor copy."
+pub record TitleInspects (pair : Pair) (c : ℕ) (acts : List Action) (b : Buffers) : Type 0 where
+  pub unless_deleted : times holder_deleted acts ≡ 0 → OneHolder pair c acts b
+  pub if_deleted : times holder_deleted acts ≢ 0 → title_inspected pair b c ≡ done (0 ∷ 0 ∷ [])
+
+-- of every title granted in a run
+abbrev pub AllInspect : Pair → Run → Type 0
+AllInspect pair w = (c : ℕ) (f : Facts) → grant (actions c w.log) ≡ some f → TitleInspects pair c (actions c w.log) w.buffers
+
+-- after every list of calls from a fresh ledger and card of one application; of two applications every title is answered 9
+abbrev pub InspectsOne : Type 0
+InspectsOne =
+    (pair : Pair) (rows application : ℕ) → Within 999 rows → application < 2 ^ 16 → (ks : List Request)
+    → AllInspect pair (run pair ks (start pair rows application application))

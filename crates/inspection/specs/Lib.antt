@@ -1,0 +1,3 @@
+pub mod Inspect
+pub mod Demand1
+pub mod History

@@ -1,0 +1,12 @@
+-- The places that a till lends for what is told: by tally and by inspection.
+use Rattle.std.specs.Prelude.{ℕ, List, cond, get_or, eqb}
+use Rattle.formats.specs.Answer.{Answer}
+use Rattle.formats.specs.Part.{part}
+
+-- what stands in the place for value i of an answer: that value, or, on a refusal, which has none, what stood there before
+abbrev pub value_after : ℕ → Answer → ℕ → ℕ
+value_after i answer before = get_or answer.values i before
+
+-- and in the six places for facts, which are the values from place i on
+abbrev pub facts_after : ℕ → Answer → List ℕ → List ℕ
+facts_after i answer before = cond (eqb answer.number 0) (part answer.values i 6) before
