@@ -3,9 +3,9 @@
  *
  * A title lives in one place, its holder: a row of the shop's ledger or a full entry of the card. Its permits say how many
  * loan copies may be out, its move rights how often it may move; 15 means unlimited in both. Seven calls change a title,
- * two write a fresh ledger and a fresh card, one counts copies, and one writes a sheet of it all to print. Two more read and
- * write the calls as request bytes, one carries out a call that is given as a kind and arguments, and one previews what a basket
- * of these would be answered.
+ * two write a fresh ledger and a fresh card, one counts copies, four tell what stands on a card and in a ledger, and one writes
+ * a sheet of it all to print. Two more read and write the calls as request bytes, one carries out a call that is given as a
+ * kind and arguments, and one previews what a basket of these would be answered.
  *
  * Link with libtill.a, which is for Linux on x86-64 and needs no flags: cc till.c libtill.a
  *
@@ -275,7 +275,7 @@ uint64_t counter_tally(bool pair, const uint8_t *titles, size_t titles_len, cons
  *
  * What stands on a card and in a ledger, told without changing a byte of it: all buffers are only read. A card whose rule table
  * has a version above 11h is inspected like any other, and so are damaged entries and rows, where the heads are right. To see
- * all of a card, inspect its entries 1 to 999; all of a ledger, its rows from 1 on until one is answered 11.
+ * all of a card, inspect its entries 1 to 999; all of a ledger, its rows from 1 on until one is refused.
  */
 
 /* The kinds of an entry, as counter_inspect_entry tells them. */
@@ -331,10 +331,12 @@ uint64_t counter_inspect_row(const uint8_t *ledger, size_t ledger_len, uint64_t 
 
 /*
  * Counts the holders and the copies of title `content`, over its row and the whole card. Its holders are its row, where that is
- * here, and each full entry with its content ID. Where ledger and card are sound, a title that was registered or recorded and
- * not deleted has 1 holder, and as many copies as loans that are out; one that was deleted, or that never was there, has
- * neither, and its row's state tells which. After a loss, a power failure between two tables for one, there may be 0 holders,
- * or 2 and more. Of an entry that shows a title above R, which no row is for, nothing can be counted: 11.
+ * here, and each full entry with its content ID. While a ledger is used with one card and both are sound, a title that was
+ * registered or recorded and not deleted has 1 holder, and as many copies as loans that are out; one that was deleted, or that
+ * never was there, has neither, and its row's state tells which. Where one of several tables was not written, as when the power
+ * fails, there may be 0 holders, or 2 and more. With several cards on one ledger each count is of the card that is lent: a
+ * title that lives on another card has 0 holders here, and its row is away. Of a title above R, which an entry of another
+ * shop's card may show, nothing is counted: 11.
  *
  * Answers 4, 7, 8, 9; 11 where the row is above R, and for no other reason.
  * Done: *holders is the number of holders, 0 to 1000, and *copies that of copies, as counter_tally counts them. On a refusal both

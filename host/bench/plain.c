@@ -174,7 +174,7 @@ static inline uint64_t key_of(const uint8_t *half)
     return load64(half) & KEY_BITS;
 }
 
-/* Free or spent, which are one kind to the calls that put a title to an entry. */
+/* Free or spent, which are one kind to the calls that put a title in an entry. */
 static inline int is_vacant(const uint8_t *title, const uint8_t *rule)
 {
     return usable_id(title) == 0 && usable_id(rule) == 0;
@@ -358,13 +358,15 @@ uint64_t plain_tally(bool pair, const uint8_t *titles, size_t titles_len, const 
                      uint64_t content, uint64_t *copies)
 {
     struct sought sought = seek(content);
-    uint64_t count = 0, wrong;
+    uint64_t count = 0;
 
     if (!is_numbered(content))
         return COUNTER_CONTENT_ID;
-    wrong = wrong_card(pair, titles, titles_len, rules, rules_len);
-    if (wrong)
-        return wrong;
+    /* As written out here. By wrong_card gcc makes another loop below, which takes 70 % more on a card of copies. */
+    if (!is_title_table(pair, titles, titles_len))
+        return COUNTER_TITLES;
+    if (!is_rule_table(pair, rules, rules_len))
+        return COUNTER_RULES;
     for (size_t entry = 1; entry <= COUNTER_LAST_ENTRY; entry++)
         if (is_copy(titles + TITLE_HALF * entry, rules + RULE_HALF * entry, sought))
             count++;
@@ -658,30 +660,41 @@ uint64_t plain_inspect_row(const uint8_t *ledger, size_t ledger_len, uint64_t co
     return COUNTER_DONE;
 }
 
+static inline int is_one_of_three(const uint8_t *first, struct sought sought)
+{
+    const uint8_t *second = first + TITLE_HALF, *third = second + TITLE_HALF;
+
+    return has_flag_and_id(first, sought) || has_flag_and_id(second, sought) || has_flag_and_id(third, sought);
+}
+
+/* A copy is mostly told by its rule half's flag alone. */
+static inline void count_three(const uint8_t *titles, const uint8_t *rules, uint64_t content, struct sought sought,
+                               uint64_t *full, uint64_t *copies)
+{
+    for (size_t at = 0; at < 3 * TITLE_HALF; at += TITLE_HALF) {
+        const uint8_t *title = titles + at, *rule = rules + 2 * at;
+
+        if (!has_flag_and_id(title, sought) || cci_of(title) == 1)
+            continue;
+        if (rule[8] < 0x80 || id_of(rule) == 0)
+            (*copies)++;
+        else if (id_of(rule) == content)
+            (*full)++;
+    }
+}
+
 /*
  * The full entries and the copies of a title. Most entries of most cards are of others, and three of these are passed over at
- * once, which takes a fifth less than one by one. A copy is mostly told by its rule half's flag alone.
+ * once, which takes a fifth less than one by one.
  */
 static inline void count_title(const uint8_t *titles, const uint8_t *rules, uint64_t content, uint64_t *full, uint64_t *copies)
 {
     struct sought sought = seek(content);
     uint64_t held = 0, lent = 0;
 
-    for (size_t three = TITLE_HALF; three < COUNTER_TITLES_SIZE; three += 3 * TITLE_HALF) {
-        if (!has_flag_and_id(titles + three, sought) && !has_flag_and_id(titles + three + TITLE_HALF, sought) &&
-            !has_flag_and_id(titles + three + 2 * TITLE_HALF, sought))
-            continue;
-        for (size_t at = three; at < three + 3 * TITLE_HALF; at += TITLE_HALF) {
-            const uint8_t *title = titles + at, *rule = rules + 2 * at;
-
-            if (!has_flag_and_id(title, sought) || cci_of(title) == 1)
-                continue;
-            if (rule[8] < 0x80 || id_of(rule) == 0)
-                lent++;
-            else if (id_of(rule) == content)
-                held++;
-        }
-    }
+    for (size_t at = TITLE_HALF; at < COUNTER_TITLES_SIZE; at += 3 * TITLE_HALF)
+        if (is_one_of_three(titles + at, sought))
+            count_three(titles + at, rules + 2 * at, content, sought, &held, &lent);
     *full = held;
     *copies = lent;
 }

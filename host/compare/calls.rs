@@ -157,7 +157,7 @@ pub fn leaves_sti_key_alone(call: &Call, tables: &Tables) -> bool {
     }
 }
 
-/// The entry to which the call is to put a title, as it is before.
+/// The entry in which the call is to put a title, as it is before.
 pub fn entry_to_fill(call: &Call, tables: &Tables) -> Option<Entry> {
     match *call {
         Call::Record { entry, .. } | Call::CheckOut { entry, .. } | Call::MoveIn { entry, .. } => tables.entry(entry),

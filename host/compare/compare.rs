@@ -52,9 +52,9 @@ struct OfPair {
     other_application: [[u64; ANSWERS]; OPERATIONS.len()],
     /// And those whose fillers would leave the STI key of a full entry, and no other key.
     sti_key_left: [[u64; ANSWERS]; OPERATIONS.len()],
-    /// Those that are to put a title to a spent entry.
+    /// Those that are to put a title in a spent entry.
     at_spent: [[u64; ANSWERS]; OPERATIONS.len()],
-    /// And to an entry with flag 0 and one of `STALE_IDS` in its title half, without and with a usable rule half.
+    /// And in an entry with flag 0 and one of `STALE_IDS` in its title half, without and with a usable rule half.
     at_stale: [[u64; 2]; STALE_IDS.len()],
     /// Move ins that found a copy, by the entries that they read.
     read_to_copy: PerEntry,
@@ -78,7 +78,7 @@ impl Default for PerEntry {
 impl OfPair {
     /// Each operation that tests heads met a title table, and a rule table, of the other pair, and a card of another application,
     /// which was refused where a ledger is lent too; a move out and a delete that would leave the STI key were answered 16 or, for
-    /// pictures, done; each call that puts a title to an entry was done at a spent one; a move in found the first copy in each
+    /// pictures, done; each call that puts a title in an entry was done at a spent one; a move in found the first copy in each
     /// entry; inspections told all that they can tell; and demand 3 was tested, on sheets and by inspection too.
     fn complete(&self, pair: Pair) -> Result<(), String> {
         for (operation, name, allowed) in &OPERATIONS[..FORMATTING] {
@@ -267,10 +267,10 @@ impl Run {
             print_line(&format!("{pair:?} requests in baskets"), &OfPair::together(in_baskets));
             print_line(&format!("{pair:?} on tables of the other pair"), &OfPair::together(other_pair));
             print_line(&format!("{pair:?} with f2 the STI key"), &OfPair::together(sti_key_left));
-            print_line(&format!("{pair:?} to a spent entry"), &OfPair::together(at_spent));
+            print_line(&format!("{pair:?} in a spent entry"), &OfPair::together(at_spent));
             for (rule_half, number) in [("no usable rule half", 0), ("a usable rule half", 1)] {
                 let counts = STALE_IDS.iter().zip(at_stale).map(|(id, counts)| format!("{id}: {}", counts[number]));
-                println!("{pair:?} to flag 0 beside {rule_half}, by ID  {}", counts.collect::<Vec<_>>().join("  "));
+                println!("{pair:?} in flag 0 beside {rule_half}, by ID  {}", counts.collect::<Vec<_>>().join("  "));
             }
             inspected.print(pair);
             let Titles { with_holder, deleted, copies, lines, lines_after_deletes, spent, inspected } = titles;

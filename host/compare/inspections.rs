@@ -122,15 +122,23 @@ pub fn of_vacant(run: &mut Run, random: &mut Random, sides: &mut Sides, contents
     let (before, vacant) = (sides.library.clone(), sides.told().vacant);
     for entry in from..=if vacant == 0 { LAST_ENTRY } else { vacant } {
         let named = Named { contents: contents.to_vec(), entries: vec![entry] };
-        for operation in [Operation::Record, Operation::CheckOut, Operation::MoveIn] {
-            let call = inputs::likely_call(random, &before, &named, operation);
-            let answer = sides.call(run, &call)?;
-            if (answer == 10) == (entry == vacant) {
-                return Err(run.found(format!("{call:?} answers {answer}; the first vacant from {from} on: {vacant}")));
-            }
-            if answer == 0 {
-                sides.set(&before);
-            }
+        put_in(run, random, sides, &before, &named, entry == vacant)?;
+    }
+    Ok(())
+}
+
+/// The calls that put a title in an entry, each on these tables, which are set back where it is done.
+fn put_in(
+    run: &mut Run, random: &mut Random, sides: &mut Sides, before: &Tables, named: &Named, vacant: bool,
+) -> Result<(), String> {
+    for operation in [Operation::Record, Operation::CheckOut, Operation::MoveIn] {
+        let call = inputs::likely_call(random, before, named, operation);
+        let answer = sides.call(run, &call)?;
+        if (answer == 10) == vacant {
+            return Err(run.found(format!("{call:?} answers {answer}; whether it is the first vacant entry: {vacant}")));
+        }
+        if answer == 0 {
+            sides.set(before);
         }
     }
     Ok(())
@@ -153,9 +161,8 @@ pub fn every_first_vacant(run: &mut Run, pair: Pair) -> Result<(), String> {
         }
         sides.set(&tables);
         let any = random.one_to(vacant);
-        for from in [1, any, vacant, (vacant + 1).min(LAST_ENTRY)] {
-            sides.call(run, &Call::FirstVacant { from })?;
-        }
+        let from = [1, any, vacant, (vacant + 1).min(LAST_ENTRY)];
+        from.into_iter().try_for_each(|from| sides.call(run, &Call::FirstVacant { from }).map(|_| ()))?;
     }
     Ok(())
 }

@@ -125,7 +125,7 @@ pub fn full_card(run: &mut Run, pair: Pair) -> Result<(), String> {
     check(run, &mut random, &mut sides, &counts, &all(5))
 }
 
-/// A move in, to a free entry or a spent one, with the first copy in each entry. Before it are entries that have been copies of the
+/// A move in, in a free entry or a spent one, with the first copy in each entry. Before it are entries that have been copies of the
 /// title, or are copies of another; behind it are copies of it.
 pub fn every_first_copy(run: &mut Run, pair: Pair) -> Result<(), String> {
     (run.part, run.round) = ("first copies", pair as u64);
@@ -250,7 +250,7 @@ fn spent_halves(random: &mut Random) -> Halves {
     (Some(title), Some(rule))
 }
 
-/// A title not granted, here, lent, and away, with the calls that are done then. Where the call is to put it to an entry, that one is
+/// A title not granted, here, lent, and away, with the calls that are done then. Where the call is to put it in an entry, that one is
 /// free or spent.
 fn situations(random: &mut Random, pair: Pair) -> Vec<Situation> {
     use Operation::{CheckIn, CheckOut, Delete, MoveIn, MoveOut, Record, Register, Sheet, Tally};

@@ -35,7 +35,7 @@ static size_t ledger_length;
 
 static bool complain(const char *word, const char *what)
 {
-    fprintf(stderr, "%s: %s\n\n%s", word, what, usage);
+    fprintf(stderr, "%s: %s\n\n%s", shown(word), what, usage);
     return false;
 }
 
@@ -50,6 +50,15 @@ static bool take_number(const char *digits, uint64_t least, uint64_t most, uint6
     for (size_t i = 0; i < count && *number <= most; i++)
         *number = 10 * *number + (uint64_t)(digits[i] - '0');
     return least <= *number && *number <= most;
+}
+
+/* Of a file that is written twice only the second would be left. */
+static bool is_named(const struct command *command, const char *word)
+{
+    for (size_t i = 0; i < command->file_count; i++)
+        if (strcmp(command->files[i], word) == 0)
+            return true;
+    return false;
 }
 
 /* Takes a word, and the next one where that is its value. */
@@ -69,6 +78,8 @@ static bool take_word(struct command *command, const char *word, const char *val
         return complain(word, "no such option");
     else if (command->file_count == MOST_FILES)
         return complain(word, "a file too many");
+    else if (is_named(command, word))
+        return complain(word, "named twice");
     else
         command->files[command->file_count++] = word;
     return true;

@@ -64,6 +64,12 @@ static void look_at_entry(struct inspection *seen, uint64_t number)
         compare_entry(seen, number, "full with", COUNTER_ROW_AWAY);
 }
 
+static void look_at_entries(struct inspection *seen)
+{
+    for (uint64_t number = 1; number <= seen->entry_count; number++)
+        look_at_entry(seen, number);
+}
+
 /* ---------------------------------------------------------------- titles */
 
 /* Which titles the card has, as copies or full. */
@@ -77,16 +83,26 @@ static void find_on_card(const struct inspection *seen, bool on_card[COUNTER_MOS
     }
 }
 
+/* One ledger serves several cards, and only one of them is looked at. */
+static const char *where_else(uint64_t state, uint64_t holders)
+{
+    return state == COUNTER_ROW_AWAY && holders == 0 ? "; another card may have it" : "";
+}
+
 static void say_holders(struct inspection *seen, uint64_t content, uint64_t holders, uint64_t needed, uint64_t copies)
 {
     uint64_t state = seen->rows[content].kind_or_state;
     uint64_t full = state == COUNTER_ROW_HERE ? holders - 1 : holders;
 
-    say(seen, "title %" PRIu64 " has %" PRIu64 " holder%s, not %" PRIu64 ": row %s, full entries %" PRIu64
-        ", copies %" PRIu64, content, holders, plural(holders), needed, state_words(state), full, copies);
+    say(seen, "title %" PRIu64 " has %" PRIu64 " holder%s on this card and in the ledger, not %" PRIu64
+        ": row %s, full entries %" PRIu64 ", copies %" PRIu64 "%s", content, holders, plural(holders), needed,
+        state_words(state), full, copies, where_else(state, holders));
 }
 
-/* A title has one holder, and none once it is gone. */
+/*
+ * A title has one holder, and none once it is gone. No title up to R is refused where card and ledger can be compared; if one
+ * were, that would be said, and not counts that are not told.
+ */
 static void look_at_holders(struct inspection *seen, uint64_t content)
 {
     const struct file *l = &seen->ledger, *t = &seen->titles, *r = &seen->rules;
@@ -101,29 +117,35 @@ static void look_at_holders(struct inspection *seen, uint64_t content)
         say_holders(seen, content, holders, needed, copies);
 }
 
+/* A row that is empty or in no state tells of no title. Beside it holders are counted only where the card has the title. */
 static void look_at_title(struct inspection *seen, uint64_t content, bool on_card)
 {
     uint64_t state = seen->rows[content].kind_or_state;
+    bool tells = state != COUNTER_ROW_EMPTY && state != COUNTER_ROW_NO_STATE;
 
     if (state == COUNTER_ROW_NO_STATE)
         say(seen, "row %" PRIu64 " is in no state", content);
-    if (can_be_compared(seen) && (state != COUNTER_ROW_EMPTY || on_card))
+    if (can_be_compared(seen) && (tells || on_card))
         look_at_holders(seen, content);
+}
+
+static void look_at_titles(struct inspection *seen)
+{
+    bool on_card[COUNTER_MOST_ROWS + 1] = {false};
+
+    find_on_card(seen, on_card);
+    for (uint64_t content = 1; content <= seen->row_count; content++)
+        look_at_title(seen, content, on_card[content]);
 }
 
 /* ---------------------------------------------------------------- all of it */
 
 void print_what_is_off(struct inspection *seen)
 {
-    bool on_card[COUNTER_MOST_ROWS + 1] = {false};
-
     printf("\n");
     look_at_answers(seen);
-    for (uint64_t number = 1; number <= seen->entry_count; number++)
-        look_at_entry(seen, number);
-    find_on_card(seen, on_card);
-    for (uint64_t content = 1; content <= seen->row_count; content++)
-        look_at_title(seen, content, on_card[content]);
+    look_at_entries(seen);
+    look_at_titles(seen);
     if (seen->off_count == 0)
         printf("nothing is off\n");
 }

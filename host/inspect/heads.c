@@ -103,34 +103,48 @@ static void print_byte(size_t at, unsigned byte, const struct allowed *allowed)
 
 static void print_first_fault(const struct file *file, const struct allowed *head, size_t count)
 {
-    size_t at = 0;
-
-    while (at < count && allows(&head[at], file->bytes[at]))
-        at++;
-    if (at < count)
-        print_byte(at, file->bytes[at], &head[at]);
-    else
-        printf(NEXT_LINE "no byte at fault was found\n");
+    for (size_t at = 0; at < count; at++)
+        if (!allows(&head[at], file->bytes[at])) {
+            print_byte(at, file->bytes[at], &head[at]);
+            return;
+        }
 }
 
 static void print_length(const struct file *file, size_t right, const char *more)
 {
-    printf(NEXT_LINE "found %zu byte%s, not %zu%s\n", file->length, plural(file->length), right, more);
+    printf(NEXT_LINE "found %zu byte%s%s, not %zu%s\n", file->length, plural(file->length),
+           file->length == MOST_READ ? " or more" : "", right, more);
 }
 
 /* The identifiers of the two pairs differ in their first byte only. */
+static unsigned first_letter(bool pair, const struct allowed *audio)
+{
+    return pair == COUNTER_PICTURE ? 'P' : audio[IDENTIFIER].least;
+}
+
+static void print_other_pair(bool pair, const struct file *table, const struct allowed *audio)
+{
+    if (table->bytes[IDENTIFIER] != first_letter(!pair, audio) || table->bytes[IDENTIFIER + 1] != '1')
+        return;
+    if (pair == COUNTER_PICTURE)
+        printf(NEXT_LINE "it is of a card for music: leave out --picture\n");
+    else
+        printf(NEXT_LINE "it is of a card for pictures: see --picture\n");
+}
+
 static void print_table_fault(bool pair, const struct file *table, size_t size, const struct allowed *audio)
 {
     struct allowed head[TABLE_HEAD];
+    unsigned letter = first_letter(pair, audio);
 
     if (table->length != size) {
         print_length(table, size, "");
         return;
     }
     memcpy(head, audio, sizeof head);
-    if (pair == COUNTER_PICTURE)
-        head[IDENTIFIER] = (struct allowed)IS("identifier", 'P');
+    head[IDENTIFIER] = (struct allowed)IS("identifier", letter);
     print_first_fault(table, head, TABLE_HEAD);
+    print_other_pair(pair, table, audio);
 }
 
 /* A rule table that is right by itself is refused beside a ledger for its application number only. */

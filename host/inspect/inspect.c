@@ -13,6 +13,9 @@ static const char usage[] =
     "in LEDGER: the heads, every entry and row that is in use, how many there are of each kind, and a line for each\n"
     "thing that is off.\n"
     "\n"
+    "A ledger serves many cards. A title whose row is away and which this card does not have is on another card or lost,\n"
+    "and has a line too.\n"
+    "\n"
     "  --picture   the card is for pictures, not for music\n"
     "  --keys      title keys and STI keys are shown too\n"
     "\n"
@@ -50,7 +53,8 @@ static bool take_command(int count, char **words, struct command *command)
 {
     for (int i = 1; i < count; i++)
         if (!take_word(command, words[i])) {
-            fprintf(stderr, "%s: %s\n\n%s", words[i], words[i][0] == '-' ? "no such option" : "a file too many", usage);
+            fprintf(stderr, "%s: %s\n\n%s", shown(words[i]), words[i][0] == '-' ? "no such option" : "a file too many",
+                    usage);
             return false;
         }
     if (command->help || command->file_count >= 2)

@@ -5,6 +5,10 @@
 #include "files.h"
 #include "music_counter.h"
 
+_Static_assert(MOST_READ > COUNTER_RULES_SIZE && MOST_READ > COUNTER_TITLES_SIZE &&
+                   MOST_READ > COUNTER_LEDGER_SIZE(COUNTER_MOST_ROWS),
+               "what is right is read whole");
+
 /* An entry or a row as the library tells it. The content ID is the entry's; that of a row is its number. */
 struct told {
     uint64_t kind_or_state;

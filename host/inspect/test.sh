@@ -178,7 +178,7 @@ fresh_card '50 31' '50 31'
 fresh_ledger 64
 writes 'a card for pictures' '' '0 requests, 0 of them refused' --picture
 
-# document 01's example, request by request: register, check-out to entry 7, check-out, move in, check-in, move in to entry 9
+# document 01's example, request by request: register, check-out (entry 7), check-out, move in, check-in, move in (entry 9)
 fresh_card
 here 1 2 0 1 1
 writes 'registered' '01 01 02 00 01 01 05 06' '1 request, 0 of them refused'
@@ -468,6 +468,8 @@ shows '999 entries in use' 0 titles rules ledger < <(crowd_lines)
 
 # ---------------------------------------------------------------- inspect: pairs
 
+of_pictures='it is of a card for pictures: see --picture'
+of_music='it is of a card for music: leave out --picture'
 fresh_card '50 31' '50 31'
 fresh_ledger 1
 row 1 02
@@ -492,8 +494,10 @@ shows 'a card for pictures' 0 --picture titles rules ledger < expected-picture
 shows 'a card for pictures, not said' 1 titles rules ledger << END
 title table  $titles_text
              byte 0, identifier: found 50h, not 41h
+             $of_pictures
 rule table   $rules_text
              byte 0, identifier: found 50h, not 4Dh
+             $of_pictures
 ledger       application number 0, R 1
 
 entries cannot be told, since a table is refused
@@ -531,14 +535,39 @@ fresh_card
 shows 'a card for music, said to be for pictures' 1 titles rules --picture << END
 title table  $titles_text
              byte 0, identifier: found 41h, not 50h
+             $of_music
 rule table   $rules_text
              byte 0, identifier: found 4Dh, not 50h
+             $of_music
 
 entries cannot be told, since a table is refused
 
 off: the title table is refused with 8
 off: the rule table is refused with 9
 END
+
+# identifiers that are of neither pair, and each of the other kind of table
+neither() {
+    shows "identifiers $1" 1 titles rules "${@:4}" << END
+title table  $titles_text
+             $2
+rule table   $rules_text
+             $3
+
+entries cannot be told, since a table is refused
+
+off: the title table is refused with 8
+off: the rule table is refused with 9
+END
+}
+fresh_card '50 32' '50 30'
+neither 'P2 and P0' 'byte 0, identifier: found 50h, not 41h' 'byte 0, identifier: found 50h, not 4Dh'
+neither 'P2 and P0, of pictures' 'byte 1, identifier: found 32h, not 31h' 'byte 1, identifier: found 30h, not 31h' --picture
+fresh_card '41 32' '4D 00'
+neither 'A2 and M0, of pictures' 'byte 0, identifier: found 41h, not 50h' 'byte 0, identifier: found 4Dh, not 50h' --picture
+fresh_card '4D 31' '41 31'
+neither 'M1 and A1' 'byte 0, identifier: found 4Dh, not 41h' 'byte 0, identifier: found 41h, not 4Dh'
+neither 'M1 and A1, of pictures' 'byte 0, identifier: found 4Dh, not 50h' 'byte 0, identifier: found 41h, not 50h' --picture
 
 # ---------------------------------------------------------------- inspect: heads and lengths
 
@@ -609,6 +638,7 @@ at_fault() {
     "$1_refused" "byte $2, $4"
 }
 at_fault titles 0 4D 'identifier: found 4Dh, not 41h'
+at_fault titles 0 50 "identifier: found 50h, not 41h"$'\n'"             $of_pictures"
 at_fault titles 1 32 'identifier: found 32h, not 31h'
 for version in 00 08 0A 0F 11 90 FF; do
     at_fault titles 3 $version "version: found ${version}h, not 09h or 10h"
@@ -625,6 +655,7 @@ at_fault titles 12 20 'length of an entry: found 20h, not 10h'
 at_fault titles 13 02 'mark: found 02h, not 01h'
 
 at_fault rules 0 41 'identifier: found 41h, not 4Dh'
+at_fault rules 0 50 "identifier: found 50h, not 4Dh"$'\n'"             $of_pictures"
 at_fault rules 1 30 'identifier: found 30h, not 31h'
 for version in 00 09 10; do
     at_fault rules 3 $version "version: found ${version}h, not 11h or more"
@@ -673,11 +704,11 @@ resized() {
     whole
     truncate -s "$2" "$1"
 }
-for length in 0 2 15 15999 16001 32000 65535 65536 65537 200000; do
+for length in 0 2 15 15999 16001 32000 65535; do
     resized titles $length
     titles_refused "found $length bytes, not 16000"
 done
-for length in 0 2 14 31999 32001 16000 131072; do
+for length in 0 2 14 31999 32001 16000 65535; do
     resized rules $length
     rules_refused "found $length bytes, not 32000"
 done
@@ -685,10 +716,39 @@ for length in 0 2 3 4 24 47; do
     resized ledger $length
     ledger_refused "found $length bytes, not 48 or more"
 done
-for length in 48 7200 7223 7225 7248 100000; do
+for length in 48 7200 7223 7225 7248 65535; do
     resized ledger $length
     ledger_refused "found $length bytes, not 7224, by the R in its head"
 done
+
+# no more is read than tells that a file is too long, which may have no end
+for length in 65536 65537 200000; do
+    resized titles $length
+    titles_refused 'found 65536 bytes or more, not 16000'
+    resized rules $length
+    rules_refused 'found 65536 bytes or more, not 32000'
+    resized ledger $length
+    ledger_refused 'found 65536 bytes or more, not 7224, by the R in its head'
+done
+whole
+shows 'tables and a ledger without an end' 1 /dev/zero /dev/zero <(cat ledger /dev/zero) << END
+title table  $titles_text
+             found 65536 bytes or more, not 16000
+rule table   $rules_text
+             found 65536 bytes or more, not 32000
+ledger       $ledger_text
+             found 65536 bytes or more, not 7224, by the R in its head
+
+entries cannot be told, since a table is refused
+
+rows cannot be told, since the ledger is refused
+
+off: the title table is refused with 8
+off: the rule table is refused with 9
+off: the ledger is refused with 7
+off: card and ledger cannot be compared
+END
+
 resized titles 1
 titles_refused 'found 1 byte, not 16000'
 resized ledger 1
@@ -841,24 +901,28 @@ entries  free 999, copy 0, full 0, torn 0, spent 0
 rows     empty 3, here 0, away 0, gone 0, in no state 7
 
 off: row 1 is in no state
-off: title 1 has 0 holders, not 1: row in no state, full entries 0, copies 0
 off: row 2 is in no state
-off: title 2 has 0 holders, not 1: row in no state, full entries 0, copies 0
 off: row 3 is in no state
-off: title 3 has 0 holders, not 1: row in no state, full entries 0, copies 0
 off: row 4 is in no state
-off: title 4 has 0 holders, not 1: row in no state, full entries 0, copies 0
 off: row 5 is in no state
-off: title 5 has 0 holders, not 1: row in no state, full entries 0, copies 0
 off: row 6 is in no state
-off: title 6 has 0 holders, not 1: row in no state, full entries 0, copies 0
 off: row 7 is in no state
-off: title 7 has 0 holders, not 1: row in no state, full entries 0, copies 0
 END
 put rules 3 10
 ends 'a row in no state beside a table that is refused' 1 'off: the rule table is refused with 9' "$not_compared" \
     'off: row 1 is in no state' 'off: row 2 is in no state' 'off: row 3 is in no state' 'off: row 4 is in no state' \
     'off: row 5 is in no state' 'off: row 6 is in no state' 'off: row 7 is in no state'
+
+# beside such a row, what the card has of its title is told, and nothing else
+fresh
+row 3 FF
+put titles 160 00 00 00 00 00 00 00 00 00 00 00 00 00 00 00 03
+ends 'in no state, and a spent entry' 1 'off: row 3 is in no state'
+full 7 3
+full 8 3
+ends 'in no state, and two full entries' 1 'off: entry 7 is full with title 3, whose row is in no state, not away' \
+    'off: entry 8 is full with title 3, whose row is in no state, not away' 'off: row 3 is in no state' \
+    'off: title 3 has 2 holders on this card and in the ledger, not 1: row in no state, full entries 2, copies 0'
 
 # a full entry, with its row in each state, and above R
 fresh
@@ -866,12 +930,12 @@ full 7 10
 ends 'full, its row empty' 1 'off: entry 7 is full with title 10, whose row is empty, not away'
 here 10
 ends 'full, its row here' 1 'off: entry 7 is full with title 10, whose row is here, not away' \
-    'off: title 10 has 2 holders, not 1: row here, full entries 1, copies 0'
+    'off: title 10 has 2 holders on this card and in the ledger, not 1: row here, full entries 1, copies 0'
 row 10 02
 ends 'full, its row away' 0 'nothing is off'
 row 10 03
 ends 'full, its row gone' 1 'off: entry 7 is full with title 10, whose row is gone, not away' \
-    'off: title 10 has 1 holder, not 0: row gone, full entries 1, copies 0'
+    'off: title 10 has 1 holder on this card and in the ledger, not 0: row gone, full entries 1, copies 0'
 row 10 04
 ends 'full, its row in no state' 1 'off: entry 7 is full with title 10, whose row is in no state, not away' \
     'off: row 10 is in no state'
@@ -886,17 +950,18 @@ ends 'full, the last of all' 1 'off: entry 999 is full with title 999, which is 
 fresh
 copy 7 10
 ends 'a copy, its row empty' 1 'off: entry 7 is a copy of title 10, whose row is empty, not here' \
-    'off: title 10 has 0 holders, not 1: row empty, full entries 0, copies 1'
+    'off: title 10 has 0 holders on this card and in the ledger, not 1: row empty, full entries 0, copies 1'
 here 10
 ends 'a copy, its row here' 0 'nothing is off'
 row 10 02
 ends 'a copy, its row away' 1 'off: entry 7 is a copy of title 10, whose row is away, not here' \
-    'off: title 10 has 0 holders, not 1: row away, full entries 0, copies 1'
+    'off: title 10 has 0 holders on this card and in the ledger, not 1: row away, full entries 0, copies 1; another card may have it'
 row 10 03
 ends 'a copy, its row gone' 1 'off: entry 7 is a copy of title 10, whose row is gone, not here'
 row 10 04
 ends 'a copy, its row in no state' 1 'off: entry 7 is a copy of title 10, whose row is in no state, not here' \
-    'off: row 10 is in no state' 'off: title 10 has 0 holders, not 1: row in no state, full entries 0, copies 1'
+    'off: row 10 is in no state' \
+    'off: title 10 has 0 holders on this card and in the ledger, not 1: row in no state, full entries 0, copies 1'
 fresh
 copy 7 11
 ends 'a copy, its row above R' 1 'off: entry 7 is a copy of title 11, which is above R, 10'
@@ -904,18 +969,20 @@ ends 'a copy, its row above R' 1 'off: entry 7 is a copy of title 11, which is a
 # holders: none of a title that is away, as after a power failure between two tables; several on the card; and beside a copy
 fresh
 row 3 02
-ends 'away, and nowhere' 1 'off: title 3 has 0 holders, not 1: row away, full entries 0, copies 0'
+ends 'away, and nowhere' 1 \
+    'off: title 3 has 0 holders on this card and in the ledger, not 1: row away, full entries 0, copies 0; another card may have it'
 put titles 160 00 00 00 00 00 00 00 00 00 00 00 00 00 00 00 03
-ends 'away, and a spent entry' 1 'off: title 3 has 0 holders, not 1: row away, full entries 0, copies 0'
+ends 'away, and a spent entry' 1 \
+    'off: title 3 has 0 holders on this card and in the ledger, not 1: row away, full entries 0, copies 0; another card may have it'
 full 7 3
 full 8 3
 full 9 3
-ends 'three full entries' 1 'off: title 3 has 3 holders, not 1: row away, full entries 3, copies 0'
+ends 'three full entries' 1 'off: title 3 has 3 holders on this card and in the ledger, not 1: row away, full entries 3, copies 0'
 here 3
 ends 'three full entries and the row' 1 'off: entry 7 is full with title 3, whose row is here, not away' \
     'off: entry 8 is full with title 3, whose row is here, not away' \
     'off: entry 9 is full with title 3, whose row is here, not away' \
-    'off: title 3 has 4 holders, not 1: row here, full entries 3, copies 0'
+    'off: title 3 has 4 holders on this card and in the ledger, not 1: row here, full entries 3, copies 0'
 fresh
 row 3 02
 full 7 3
@@ -996,10 +1063,9 @@ off: entry 20 is full with title 1, whose row is here, not away
 off: entry 21 is torn
 off: entry 22 is a copy of title 11, which is above R, 10
 off: entry 23 is full with title 6, whose row is empty, not away
-off: title 1 has 2 holders, not 1: row here, full entries 1, copies 0
-off: title 2 has 0 holders, not 1: row away, full entries 0, copies 0
+off: title 1 has 2 holders on this card and in the ledger, not 1: row here, full entries 1, copies 0
+off: title 2 has 0 holders on this card and in the ledger, not 1: row away, full entries 0, copies 0; another card may have it
 off: row 5 is in no state
-off: title 5 has 0 holders, not 1: row in no state, full entries 0, copies 0
 END
 
 # ---------------------------------------------------------------- files and commands
@@ -1011,6 +1077,8 @@ mkdir folder
 fails 'no title table' "$none" "$inspect" none rules ledger
 fails 'no rule table' "$none" "$inspect" titles none
 fails 'no ledger' "$none" "$inspect" titles rules none
+fails 'no name of a title table' '"": No such file or directory'$'\n' "$inspect" '' rules
+fails 'no name of a ledger' '"": No such file or directory'$'\n' "$inspect" titles rules ''
 fails 'a folder for a title table' "$is_folder" "$inspect" folder rules
 fails 'a folder for a rule table' "$is_folder" "$inspect" titles folder ledger
 fails 'a folder for a ledger' "$is_folder" "$inspect" titles rules folder
@@ -1024,6 +1092,7 @@ fi
 fails 'buffers, no such folder for titles' 'none/t: No such file or directory'$'\n' "$buffers" none/t r l
 fails 'buffers, no such folder for rules' 'none/r: No such file or directory'$'\n' "$buffers" t none/r l
 fails 'buffers, no such folder for a ledger' 'none/l: No such file or directory'$'\n' "$buffers" t r none/l
+fails 'buffers, no name of a rule table' '"": No such file or directory'$'\n' "$buffers" t '' l
 fails 'buffers, a folder for a table' "$is_folder" "$buffers" t folder l
 fails 'buffers, no room for a table' '/dev/full: No space left on device'$'\n' "$buffers" /dev/full r l
 fails 'buffers, no room for a ledger' '/dev/full: No space left on device'$'\n' "$buffers" --rows 1 t r /dev/full
@@ -1055,6 +1124,9 @@ Shows the card whose opened title table and rule table are in the files TITLES a
 in LEDGER: the heads, every entry and row that is in use, how many there are of each kind, and a line for each
 thing that is off.
 
+A ledger serves many cards. A title whose row is away and which this card does not have is on another card or lost,
+and has a line too.
+
   --picture   the card is for pictures, not for music
   --keys      title keys and STI keys are shown too
 
@@ -1084,12 +1156,13 @@ done
 misused() {
     rm -f t r l
     fails "$1 ${*:3}" "$2"$'\n\n'"$(cat "$1-usage")"$'\n' "${!1}" "${@:3}"
-    [ ! -e t ] || differs "$1 ${*:3}" 'wrote a file'
+    [ ! -e t ] && [ ! -e r ] && [ ! -e l ] || differs "$1 ${*:3}" 'wrote a file'
 }
 misused inspect 'a title table and a rule table are needed'
 misused inspect 'a title table and a rule table are needed' titles
 misused inspect 'a title table and a rule table are needed' --keys titles
 misused inspect 'ledger: a file too many' titles rules ledger ledger
+misused inspect '"": a file too many' titles rules ledger ''
 misused inspect '--key: no such option' --key titles rules
 misused inspect '-: no such option' titles - ledger
 misused inspect '--rows: no such option' titles rules --rows 3
@@ -1097,6 +1170,12 @@ misused buffers 'a title table, a rule table and a ledger are needed'
 misused buffers 'a title table, a rule table and a ledger are needed' t r
 misused buffers 'a title table, a rule table and a ledger are needed' --rows 3 t r
 misused buffers 'm: a file too many' t r l m
+misused buffers '"": a file too many' t r l ''
+misused buffers 't: named twice' t t l
+misused buffers 't: named twice' t r --rows 3 t
+misused buffers 'r: named twice' t r r
+misused buffers 't: named twice' t t
+misused buffers '"": named twice' '' '' l
 misused buffers '--keys: no such option' t r l --keys
 misused buffers '-p: no such option' -p t r l
 for rows in 0 1000 18446744073709551617 '' +3 -3 ' 3' 3.0 0x3 3h; do

@@ -11,7 +11,7 @@ cd "$(dirname "$0")/../.."
 told() {
     awk '
         /^[A-Z][A-Za-z]+ .* =$/ { name = $1 }
-        /^ +ToldFirst \(/ { sub(/^ +ToldFirst \(/, ""); sub(/ ∷ \[\]\).*/, ""); print name, $0 }' "$@"
+        /^ +RefusedOrTold \(/ { sub(/^ +RefusedOrTold \(/, ""); sub(/ ∷ \[\]\).*/, ""); print name, $0 }' "$@"
 }
 
 # FUNCTION NUMBER NUMBER ..: `checked` of a call, and the numbers that the demands have for formatting, tally, inspection, sheet and preview.

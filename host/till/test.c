@@ -972,6 +972,12 @@ static void all_sets_of_refusals(void (*met)(const struct function *f, unsigned 
     }
 }
 
+static void sets_of_refusals(void)
+{
+    all_sets_of_refusals(meet);
+    all_sets_of_refusals(meet_otherwise);
+}
+
 /* ---------------------------------------------------------------- arguments */
 
 static void content_ids(void)
@@ -1120,6 +1126,16 @@ static void hashes(void)
             a.h = bit < 64 ? stored[k] ^ ((uint64_t)1 << bit) : stored[k];
             CHECK(named("move out"), bit < 64 ? 13 : 0);
         }
+}
+
+static void arguments(void)
+{
+    content_ids();
+    entry_numbers();
+    facts();
+    fillers();
+    fillers_beside_a_copy();
+    hashes();
 }
 
 /* ---------------------------------------------------------------- tables */
@@ -1340,6 +1356,19 @@ static void formatting_anew(void)
     }
 }
 
+static void heads_and_places(void)
+{
+    lengths();
+    all_heads();
+    pairs();
+    versions();
+    row_counts();
+    places();
+    applications_and_triggers();
+    formatting();
+    formatting_anew();
+}
+
 /* ---------------------------------------------------------------- entries and rows */
 
 /* No title, the title of the row and another, and the limits of the IDs of titles. */
@@ -1350,10 +1379,11 @@ typedef void with_entry(uint64_t title_flag, uint64_t title_id, uint64_t cci, ui
 /* All flags, IDs and CCI of an entry. */
 static void each_entry(with_entry *with)
 {
-    for (unsigned flags = 0; flags < 4; flags++)
-        for (size_t k = 0; k < COUNT_OF(ids) * COUNT_OF(ids); k++)
-            for (uint64_t cci = 0; cci < 4; cci++)
-                with(flags % 2, ids[k % COUNT_OF(ids)], cci, flags / 2, ids[k / COUNT_OF(ids)]);
+    for (size_t n = 0; n < 2 * 2 * 4 * COUNT_OF(ids) * COUNT_OF(ids); n++) {
+        size_t k = n / 16;
+
+        with(n % 2, ids[k % COUNT_OF(ids)], n / 4 % 4, n / 2 % 2, ids[k / COUNT_OF(ids)]);
+    }
 }
 
 /* "at which no record, check-out or move in is answered 10" */
@@ -1532,6 +1562,16 @@ static void neighbours(void)
         put_byte(&rules, 32 * 8, 0xff);
         CHECK(f, 0);
     }
+}
+
+static void entries_and_rows(void)
+{
+    kinds();
+    states();
+    facts_of_rows();
+    zero_bytes_of_rows();
+    reserved_bits();
+    neighbours();
 }
 
 /* ---------------------------------------------------------------- counts */
@@ -1762,6 +1802,20 @@ static void by_turns(void)
             begin(&functions[i], 64, 5, 7);
             CHECK(&functions[i], 0);
         }
+}
+
+static void permits_rights_and_copies(void)
+{
+    permits();
+    generations();
+    copies_of_any_cci(named("check-in"));
+    copies_of_any_cci(named("delete of a copy"));
+    rights();
+    copies_beside();
+    entries_read_to_a_copy();
+    tallies();
+    each_entry(tally_of);
+    a_history();
 }
 
 /* ---------------------------------------------------------------- sheets */
@@ -2126,22 +2180,37 @@ static void inspections_of_kinds(void)
     }
 }
 
-/* All entries; and of each whether it is vacant, from it on and from the first on, and what its title has. */
-static void inspections_of(uint64_t title_flag, uint64_t title_id, uint64_t cci, uint64_t rule_flag, uint64_t rule_id)
+static void entries_6_to_10(void)
+{
+    for (a.j = 6; a.j <= 10; a.j++)
+        CHECK(named("inspect entry"), 0);
+}
+
+static void first_vacant_from_each(void)
 {
     static const uint64_t from[] = {1, 7, 8, 9};
 
-    beside_entry_8(title_flag, title_id, cci, rule_flag, rule_id);
-    for (uint64_t j = 1; j <= 6; j++)
-        title_half(j, 5);
-    for (a.j = 6; a.j <= 10; a.j++)
-        CHECK(named("inspect entry"), 0);
     for (size_t k = 0; k < COUNT_OF(from); k++) {
         a.j = from[k];
         CHECK(named("first vacant"), 0);
     }
+}
+
+static void titles_5_to_7(void)
+{
     for (a.c = 5; a.c <= 7; a.c++)
         CHECK(named("inspect title"), 0);
+}
+
+/* All entries; and of each whether it is vacant, from it on and from the first on, and what its title has. */
+static void inspections_of(uint64_t title_flag, uint64_t title_id, uint64_t cci, uint64_t rule_flag, uint64_t rule_id)
+{
+    beside_entry_8(title_flag, title_id, cci, rule_flag, rule_id);
+    for (uint64_t j = 1; j <= 6; j++)
+        title_half(j, 5);
+    entries_6_to_10();
+    first_vacant_from_each();
+    titles_5_to_7();
 }
 
 /* Every count and trigger, and keys at their limits: of a full entry, of the copy that its title half alone is, and of a row. */
@@ -2178,31 +2247,47 @@ static void inspect_row_5(enum state state)
     WANT_TOLD(HOLDERS, 1 + (state == HERE));
 }
 
-/* Every byte 0, with facts in range, none, and bytes that no row that is here has; every value of each fact; and bytes not looked at. */
-static void inspections_of_rows(void)
+/* A byte 0, with facts in range, none, and bytes that no row that is here has. */
+static void row_of_byte_0(unsigned value)
+{
+    enum state state = value < 4 ? (enum state)value : NO_STATE;
+
+    begin(named("inspect row"), 64, 5, 7);
+    put_byte(&ledger, 24 * 5, value);
+    inspect_row_5(state);
+    plain_row(5, value);
+    inspect_row_5(state);
+    memset(wanted(&ledger) + 24 * 5 + 1, 0xff, 23);
+    inspect_row_5(state == HERE ? NO_STATE : state);
+}
+
+/* A row that would be here, with a value in the place of each fact. */
+static void rows_with_a_fact(unsigned value)
+{
+    for (size_t at = 1; at <= 4; at++) {
+        begin(named("inspect row"), 64, 5, 7);
+        put_byte(&ledger, 24 * 5 + at, value);
+        inspect_row_5(value > (const unsigned[]){3, 1, 15, 15}[at - 1] || (at == 1 && value == 1) ? NO_STATE : HERE);
+    }
+}
+
+static void row_of_bytes_not_looked_at(void)
 {
     static const size_t not_looked_at[] = {5, 6, 7, 15, 23};
 
-    for (unsigned value = 0; value < 256; value++) {
-        enum state state = value < 4 ? (enum state)value : NO_STATE;
-
-        begin(named("inspect row"), 64, 5, 7);
-        put_byte(&ledger, 24 * 5, value);
-        inspect_row_5(state);
-        plain_row(5, value);
-        inspect_row_5(state);
-        memset(wanted(&ledger) + 24 * 5 + 1, 0xff, 23);
-        inspect_row_5(state == HERE ? NO_STATE : state);
-        for (size_t at = 1; at <= 4; at++) {
-            begin(named("inspect row"), 64, 5, 7);
-            put_byte(&ledger, 24 * 5 + at, value);
-            inspect_row_5(value > (const unsigned[]){3, 1, 15, 15}[at - 1] || (at == 1 && value == 1) ? NO_STATE : HERE);
-        }
-    }
     begin(named("inspect row"), 64, 5, 7);
     for (size_t k = 0; k < COUNT_OF(not_looked_at); k++)
         put_byte(&ledger, 24 * 5 + not_looked_at[k], 0xff);
     inspect_row_5(HERE);
+}
+
+static void inspections_of_rows(void)
+{
+    for (unsigned value = 0; value < 256; value++) {
+        row_of_byte_0(value);
+        rows_with_a_fact(value);
+    }
+    row_of_bytes_not_looked_at();
 }
 
 static void want_holders(int line, uint64_t holders, uint64_t lent)
@@ -2212,38 +2297,51 @@ static void want_holders(int line, uint64_t holders, uint64_t lent)
     want_told(line, COPIES, 1, &lent);
 }
 
+/* Every entry, beside the row, is made a holder of the title. */
+static void ever_more_holders(uint64_t c)
+{
+    for (uint64_t j = 1; j <= 999; j++) {
+        full(j, c, 4, 3);
+        if (j % 100 < 3)
+            want_holders(__LINE__, 1 + j, 0);
+    }
+}
+
+/* The halves of the entries from one to another, all with the same ID. */
+static void halves_from(uint64_t first, uint64_t last, uint64_t title_flag, uint64_t rule_flag, uint64_t id)
+{
+    for (uint64_t j = first; j <= last; j++)
+        halves(j, title_flag, id, rule_flag, id);
+}
+
 /* Up to as many holders as there are places; then copies among them, titles beside them, and what has no title. */
+static void inspections_of_title(uint64_t c)
+{
+    begin(named("register"), 999, c, 7);
+    want_holders(__LINE__, 0, 0);
+    here_row(c);
+    want_holders(__LINE__, 1, 0);
+    ever_more_holders(c);
+    want_holders(__LINE__, 1000, 0);
+    plain_row(c, 2);
+    want_holders(__LINE__, 999, 0);
+    halves_from(1, 250, 1, 0, c);
+    want_holders(__LINE__, 749, 250);
+    halves_from(251, 500, 0, 0, c);
+    want_holders(__LINE__, 499, 250);
+    halves_from(501, 750, 1, 0, c % 999 + 1);
+    halves_from(751, 999, 1, 1, c % 999 + 1);
+    want_holders(__LINE__, 0, 250);
+    put_byte(&titles, 16 * 250, 1); /* torn by its CCI */
+    want_holders(__LINE__, 0, 249);
+}
+
 static void inspections_of_titles(void)
 {
     static const uint64_t titles_of[] = {1, 5, 512, 999};
 
-    for (size_t k = 0; k < COUNT_OF(titles_of); k++) {
-        uint64_t c = titles_of[k];
-
-        begin(named("register"), 999, c, 7);
-        want_holders(__LINE__, 0, 0);
-        here_row(c);
-        want_holders(__LINE__, 1, 0);
-        for (uint64_t j = 1; j <= 999; j++) {
-            full(j, c, 4, 3);
-            if (j % 100 < 3)
-                want_holders(__LINE__, 1 + j, 0);
-        }
-        want_holders(__LINE__, 1000, 0);
-        plain_row(c, 2);
-        want_holders(__LINE__, 999, 0);
-        for (uint64_t j = 1; j <= 250; j++)
-            halves(j, 1, c, 0, c);
-        want_holders(__LINE__, 749, 250);
-        for (uint64_t j = 251; j <= 500; j++)
-            halves(j, 0, c, 0, c);
-        want_holders(__LINE__, 499, 250);
-        for (uint64_t j = 501; j <= 999; j++)
-            halves(j, 1, c % 999 + 1, j % 2, c % 999 + 1);
-        want_holders(__LINE__, 0, 250);
-        put_byte(&titles, 16 * 250, 1); /* torn by its CCI */
-        want_holders(__LINE__, 0, 249);
-    }
+    for (size_t k = 0; k < COUNT_OF(titles_of); k++)
+        inspections_of_title(titles_of[k]);
 }
 
 static void want_vacant(int line, uint64_t from, uint64_t entry)
@@ -2260,47 +2358,83 @@ static void take_entry(uint64_t j)
     halves(j, j % 5 != 0, 5, j % 3 != 0 || j % 5 == 0, j % 3 + 4);
 }
 
-/* On a card on which every entry is vacant, none, or each alone: free or spent, by every other number. */
+/* Free or spent, by every other number. */
+static void vacate_entry(uint64_t j)
+{
+    halves(j, 0, j % 2 * 5, 0, 5);
+}
+
+static void vacate_before_the_last(uint64_t j)
+{
+    vacate_entry(j);
+    want_vacant(__LINE__, 999, 999);
+}
+
+static void vacant_at_once(uint64_t j)
+{
+    want_vacant(__LINE__, j, j);
+}
+
+static void none_vacant(uint64_t j)
+{
+    want_vacant(__LINE__, j, 0);
+}
+
+/* Where all others are taken. */
+static void only_vacant(uint64_t j)
+{
+    vacate_entry(j);
+    want_vacant(__LINE__, 1, j);
+    want_vacant(__LINE__, j, j);
+    if (j < 999)
+        want_vacant(__LINE__, j + 1, 0);
+    take_entry(j);
+}
+
+static void each_place(void (*with)(uint64_t j))
+{
+    for (uint64_t j = 1; j <= 999; j++)
+        with(j);
+}
+
+/* On a card on which every entry is vacant, none, or each alone. */
 static void vacant_alone(void)
 {
     fresh(64);
-    for (uint64_t j = 1; j <= 999; j++) {
-        halves(j, 0, j % 2 * 5, 0, 5);
-        want_vacant(__LINE__, 999, 999);
-    }
-    for (uint64_t j = 1; j <= 999; j++)
-        want_vacant(__LINE__, j, j);
-    for (uint64_t j = 1; j <= 999; j++)
-        take_entry(j);
-    for (uint64_t j = 1; j <= 999; j++)
-        want_vacant(__LINE__, j, 0);
-    for (uint64_t j = 1; j <= 999; j++) {
-        halves(j, 0, j % 2 * 5, 0, 5);
-        want_vacant(__LINE__, 1, j);
-        want_vacant(__LINE__, j, j);
-        if (j < 999)
-            want_vacant(__LINE__, j + 1, 0);
-        take_entry(j);
-    }
+    each_place(vacate_before_the_last);
+    each_place(vacant_at_once);
+    each_place(take_entry);
+    each_place(none_vacant);
+    each_place(only_vacant);
 }
 
-/* From each entry to the next of those that are vacant, which are ever further apart. */
+/* The first of 1, 3, 6, 10 and so on, ever further apart, that is not below j. */
+static uint64_t next_apart(uint64_t j)
+{
+    uint64_t next = 1;
+
+    for (uint64_t step = 2; next < j; step++)
+        next += step;
+    return next;
+}
+
+static void take_between(uint64_t j)
+{
+    if (next_apart(j) != j)
+        take_entry(j);
+}
+
+static void vacant_next(uint64_t j)
+{
+    want_vacant(__LINE__, j, next_apart(j) <= 999 ? next_apart(j) : 0);
+}
+
+/* From each entry to the next of those that are vacant. */
 static void vacant_apart(void)
 {
-    uint64_t next = 1, step = 1;
-
     fresh(64);
-    for (uint64_t j = 1; j <= 999; j++)
-        if (j == next)
-            next += ++step;
-        else
-            take_entry(j);
-    next = step = 1;
-    for (uint64_t j = 1; j <= 999; j++) {
-        want_vacant(__LINE__, j, next <= 999 ? next : 0);
-        if (j == next)
-            next += ++step;
-    }
+    each_place(take_between);
+    each_place(vacant_next);
 }
 
 static void inspections(void)
@@ -2825,39 +2959,11 @@ static unsigned long all_with(bool next)
     unsigned long before = checks;
 
     take(next);
-    all_sets_of_refusals(meet);
-    all_sets_of_refusals(meet_otherwise);
-    content_ids();
-    entry_numbers();
-    facts();
-    fillers();
-    fillers_beside_a_copy();
-    hashes();
-    lengths();
-    all_heads();
-    pairs();
-    versions();
-    row_counts();
-    places();
-    applications_and_triggers();
-    formatting();
-    formatting_anew();
-    kinds();
-    states();
-    facts_of_rows();
-    zero_bytes_of_rows();
-    reserved_bits();
-    neighbours();
-    permits();
-    generations();
-    copies_of_any_cci(named("check-in"));
-    copies_of_any_cci(named("delete of a copy"));
-    rights();
-    copies_beside();
-    entries_read_to_a_copy();
-    tallies();
-    each_entry(tally_of);
-    a_history();
+    sets_of_refusals();
+    arguments();
+    heads_and_places();
+    entries_and_rows();
+    permits_rights_and_copies();
     sheets();
     inspections();
     baskets();

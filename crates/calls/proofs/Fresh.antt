@@ -1,7 +1,7 @@
 -- A freshly formatted ledger and card: heads that pass, rows that are empty, entries that are free, and bytes all over.
 -- Assumes nothing.
 use Prim.Native.Nat.{ℕ, ◌≤◌, ◌<◌, ◌^◌}
-use mathlib.Core.Path.{◌≡◌, sym, ap, ap₂, ◌∙◌}
+use mathlib.Core.Path.{◌≡◌, ap, ap₂, ◌∙◌}
 use mathlib.Core.Bool.{Bool, cond}
 use native.Mathlib.Omega.{arith}
 use lib.Dec.{leb}
@@ -20,7 +20,7 @@ use Rattle.formats.proofs.head.Laws.{ledger_head, titles_head, rules_head, fresh
 use Rattle.calls.specs.Buffers.{row_at, state_in, state_at, kind_at, content_at, fresh, Within}
 use Rattle.calls.specs.Perform.{AreBytes}
 use Rattle.calls.specs.Fresh.{RowsByNumber, FreshIsReady}
-use Rattle.calls.proofs.Named.{HeadsPass}
+use Rattle.calls.proofs.Named.{HeadsPass, Heads, heads_pass}
 use Rattle.calls.proofs.Views.{state_of_row}
 
 module _ (pair : Pair) (rows application card_application : ℕ) where
@@ -39,18 +39,20 @@ module _ (pair : Pair) (rows application card_application : ℕ) where
   pub fresh_bytes : AreBytes (fresh pair rows application card_application)
   fresh_bytes = record { ledger = fresh_ledger_bytes rows application; titles = fresh_titles_bytes pair; rules = fresh_rules_bytes pair card_application }
 
--- of one application
-pub fresh_heads : (pair : Pair) (rows application : ℕ) → 1 ≤ rows → rows ≤ 999 → application < 2 ^ 16 → HeadsPass pair (fresh pair rows application application)
-fresh_heads pair rows application low high small =
+pub each_fresh_head : (pair : Pair) (rows application card_application : ℕ) → 1 ≤ rows → rows ≤ 999 → application < 2 ^ 16 → card_application < 2 ^ 16
+    → Heads pair application card_application (fresh pair rows application card_application)
+each_fresh_head pair rows application card_application low high small card_small =
     record {
       ledger = ledger_head (fresh_ledger rows application) (fresh_ledger_passes rows application low high);
       titles = titles_head (fresh_titles_pass pair);
-      rules =
-          record {
-            head = rules_head (fresh_rules_pass pair application);
-            application = fresh_rules_application pair application small ∙ sym (fresh_ledger_application rows application small);
-          };
+      rules = rules_head (fresh_rules_pass pair card_application);
+      of_ledger = fresh_ledger_application rows application small;
+      of_card = fresh_rules_application pair card_application card_small;
     }
+
+-- of one application
+pub fresh_heads : (pair : Pair) (rows application : ℕ) → 1 ≤ rows → rows ≤ 999 → application < 2 ^ 16 → HeadsPass pair (fresh pair rows application application)
+fresh_heads pair rows application low high small = heads_pass (each_fresh_head pair rows application application low high small small)
 
 -- ROWS BY THEIR NUMBER
 

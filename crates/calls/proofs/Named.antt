@@ -1,12 +1,12 @@
 -- What each call needs, by names, for the proofs.
 -- Assumes nothing.
 use Prim.Native.Nat.{ℕ}
-use mathlib.Core.Path.{◌≡◌}
+use mathlib.Core.Path.{◌≡◌, refl, sym, ◌∙◌}
 use mathlib.Core.Logic.{◌≢◌, ◌⊎◌, inl, inr}
 use native.Mathlib.Omega.{arith}
 use Rattle.formats.specs.declared.head.Pair.{Pair}
 use Rattle.formats.specs.declared.head.Pair.TheVariants.{Audio}
-use Rattle.formats.specs.Head.{LedgerHead, TitlesHead}
+use Rattle.formats.specs.Head.{LedgerHead, TitlesHead, RulesHead, ledger_application, rules_application}
 use Rattle.formats.specs.declared.facts.Facts.{Facts}
 use Rattle.formats.specs.declared.facts.Fillers.{Fillers}
 use Rattle.formats.specs.declared.entry.EntryKind.TheVariants.{Copy, Full}
@@ -21,6 +21,21 @@ pub record HeadsPass (pair : Pair) (b : Buffers) : Type 0 where
   pub ledger : LedgerHead b.ledger
   pub titles : TitlesHead pair b.titles
   pub rules : RulesOfLedger pair b
+
+-- the heads by themselves, and the application numbers in them
+pub record Heads (pair : Pair) (application card_application : ℕ) (b : Buffers) : Type 0 where
+  pub ledger : LedgerHead b.ledger
+  pub titles : TitlesHead pair b.titles
+  pub rules : RulesHead pair b.rules
+  pub of_ledger : ledger_application b.ledger ≡ application
+  pub of_card : rules_application b.rules ≡ card_application
+
+-- of one application they pass together
+pub heads_pass : {pair : Pair} {application : ℕ} {b : Buffers} → Heads pair application application b → HeadsPass pair b
+heads_pass h = record { ledger = h.ledger; titles = h.titles; rules = record { head = h.rules; application = h.of_card ∙ sym h.of_ledger } }
+
+pub heads_of : {pair : Pair} {b : Buffers} → HeadsPass pair b → Heads pair (ledger_application b.ledger) (ledger_application b.ledger) b
+heads_of p = record { ledger = p.ledger; titles = p.titles; rules = p.rules.head; of_ledger = refl; of_card = p.rules.application }
 
 pub record RegisterNeeds (c : ℕ) (f : Facts) (b : Buffers) : Type 0 where
   pub content : Within 999 c

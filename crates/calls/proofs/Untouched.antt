@@ -1,7 +1,7 @@
 -- A call writes its own row and its own entry, and nothing else.
 -- Assumes nothing.
 use Prim.Native.Nat.{ℕ, ◌*◌}
-use mathlib.Core.Path.{◌≡◌, refl, sym, ap, ◌∙◌}
+use mathlib.Core.Path.{◌≡◌, refl, ap, ◌∙◌}
 use mathlib.Core.Logic.{◌≢◌}
 use mathlib.Core.List.{List}
 use mathlib.Core.Option.{none, some}
@@ -28,7 +28,7 @@ use Rattle.calls.specs.Effect.{after_move, effect}
 use Rattle.calls.specs.Perform.{perform}
 use Rattle.calls.specs.Untouched.{title_written, rule_written, SlotsKept, Untouched}
 use Rattle.calls.proofs.Refusals.{either_way, call_refused_first}
-use Rattle.calls.proofs.Named.{HeadsPass, deletes_copy, deletes_holder, Named}
+use Rattle.calls.proofs.Named.{HeadsPass, Heads, heads_pass, heads_of, deletes_copy, deletes_holder, Named}
 use Rattle.calls.proofs.Passed.{needs_where, OnCard, on_card, its_row, row_in}
 use Rattle.calls.proofs.Slots.{slots_kept, all_kept}
 use Rattle.calls.proofs.Views.{IsRow, row_inside, row_length, entry_length, entries_kept}
@@ -127,9 +127,10 @@ untouched pair k b =
     (record { rows = all_kept 24 _ b.ledger; titles = all_kept 16 _ b.titles; rules = all_kept 32 _ b.rules })
     (λ none. effect_keeps pair b k (needs_where pair k b none))
 
--- heads that passed pass after it
-pub heads_kept : (pair : Pair) (k : Request) (b : Buffers) → HeadsPass pair b → HeadsPass pair (perform pair k b).buffers
-heads_kept pair k b p =
+-- and the heads as they were
+pub each_head_kept : (pair : Pair) (k : Request) (b : Buffers) {application card_application : ℕ} → Heads pair application card_application b
+    → Heads pair application card_application (perform pair k b).buffers
+each_head_kept pair k b p =
     let after = (perform pair k b).buffers in
     let l = (untouched pair k b).rows in
     let t = (untouched pair k b).titles in
@@ -137,15 +138,13 @@ heads_kept pair k b p =
     record {
       ledger = ledger_head after.ledger (ledger_kept 24 b.ledger after.ledger l.same_length l.head (omega arith) ∙ ledger_passes_lem p.ledger);
       titles = titles_head (titles_kept 16 b.titles after.titles t.same_length t.head pair (omega arith) ∙ titles_pass_lem p.titles);
-      rules =
-          record {
-            head = rules_head (rules_kept 32 b.rules after.rules r.same_length r.head pair (omega arith) ∙ rules_pass_lem p.rules.head);
-            application =
-                rules_application_kept 32 b.rules after.rules r.same_length r.head (omega arith)
-                ∙ p.rules.application
-                ∙ sym (ledger_application_kept 24 b.ledger after.ledger l.same_length l.head (omega arith));
-          };
+      rules = rules_head (rules_kept 32 b.rules after.rules r.same_length r.head pair (omega arith) ∙ rules_pass_lem p.rules);
+      of_ledger = ledger_application_kept 24 b.ledger after.ledger l.same_length l.head (omega arith) ∙ p.of_ledger;
+      of_card = rules_application_kept 32 b.rules after.rules r.same_length r.head (omega arith) ∙ p.of_card;
     }
+
+pub heads_kept : (pair : Pair) (k : Request) (b : Buffers) → HeadsPass pair b → HeadsPass pair (perform pair k b).buffers
+heads_kept pair k b p = heads_pass (each_head_kept pair k b (heads_of p))
 
 -- a call that leaves an entry's title half alone leaves its rule half alone
 pub rule_with_title : (k : Request) (b : Buffers) (i : ℕ) → title_written k ≢ some i → rule_written k b ≢ some i

@@ -22,11 +22,10 @@ use Rattle.formats.specs.declared.row.RowState.TheVariants.{NoState}
 use Rattle.formats.proofs.Part.{part_length}
 use Rattle.formats.proofs.Tests.{split, both}
 use Rattle.formats.proofs.head.Laws.{rows_kept}
-use Rattle.calls.specs.Buffers.{kind_at, content_at, facts_at, cci_at, is_copy, is_full, one, total, copies, Buffers, row_at, title_at, rule_at, state_in, state_at, Within}
+use Rattle.calls.specs.Buffers.{kind_at, content_at, facts_at, cci_at, is_copy, is_full, one, copies, full_entries, Buffers, row_at, title_at, rule_at, state_in, state_at, Within}
 use Rattle.calls.specs.Needs.{Vacant}
 use Rattle.calls.specs.Untouched.{SlotsKept}
 use Rattle.calls.proofs.Slots.{slot_ends, slot_same, slots_kept}
-use Rattle.calls.specs.History.{full_of}
 use Rattle.calls.proofs.History.Totals.{total_same}
 use Rattle.calls.proofs.History.Titles.{Place, no_title, copy, full, copy_in, full_in}
 use Rattle.calls.proofs.History.Step.{State, copies_in, fulls_in}
@@ -149,7 +148,8 @@ full_counts c Full id f = refl
 full_counts c Torn id f = refl
 full_counts c Spent id f = refl
 
-pub fulls_seen : (c : ℕ) (b : Buffers) → total 999 (λ j. one (full_of c b j)) ≡ fulls_in 999 c (view b)
+pub fulls_seen : (c : ℕ) (b : Buffers) → full_entries c b.titles b.rules ≡ fulls_in 999 c (view b)
+unfolding full_entries
 fulls_seen c b = total_same 999 _ _ (λ j l. sym (full_counts c (kind_at b j) (content_at b j) (facts_at b j)))
 
 -- ENTRIES WRITTEN

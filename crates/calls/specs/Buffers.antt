@@ -148,6 +148,10 @@ full_with c t r = is_full (kind_of t r) && eqb (id_of t) c
 unfoldable pub copies : ℕ → List ℕ → List ℕ → ℕ
 copies c titles rules = total 999 (λ j. one (copy_of c (title_at titles j) (rule_at rules j)))
 
+-- how many entries of the card are full with ID c
+unfoldable pub full_entries : ℕ → List ℕ → List ℕ → ℕ
+full_entries c titles rules = total 999 (λ j. one (full_with c (title_at titles j) (rule_at rules j)))
+
 -- "the first copy" of c on the card: the number of its entry; 0 where there is none
 unfoldable pub first_copy : ℕ → List ℕ → List ℕ → ℕ
 first_copy c titles rules = first_of 999 (λ j. copy_of c (title_at titles j) (rule_at rules j))

@@ -8,7 +8,7 @@ use Rattle.requests.specs.declared.request.Request.{Request}
 use Rattle.requests.specs.declared.request.Request.TheVariants.{Register, Record, CheckOut, CheckIn, MoveOut, MoveIn, Delete}
 use Rattle.formats.specs.declared.row.RowState.TheVariants.{Here}
 use Rattle.formats.specs.declared.entry.EntryKind.TheVariants.{Copy, Full}
-use Rattle.calls.specs.Buffers.{Buffers, state_at, kind_at, content_at, facts_at, cci_at, is_full, is_here, one, total, copies, fresh, Within}
+use Rattle.calls.specs.Buffers.{Buffers, state_at, kind_at, content_at, facts_at, cci_at, is_here, one, copies, full_entries, fresh, Within}
 use Rattle.calls.specs.Effect.{copy_cci}
 use Rattle.calls.specs.Perform.{perform}
 
@@ -158,13 +158,9 @@ grant (d ∷ acts) = granted_by d (grant acts)
 
 -- HOLDERS, from the bytes (copies: `copies`)
 
--- "A holder of c is row c if it is here, or a full entry with ID c"
-abbrev pub full_of : ℕ → Buffers → ℕ → Bool
-full_of c b j = is_full (kind_at b j) && eqb (content_at b j) c
-
--- "exactly one means that row and entries together give one"
+-- "A holder of c is row c if it is here, or a full entry with ID c"; "exactly one means that row and entries together give one"
 unfoldable pub holders : ℕ → Buffers → ℕ
-holders c b = one (is_here (state_at b c)) + total 999 (λ j. one (full_of c b j))
+holders c b = one (is_here (state_at b c)) + full_entries c b.titles b.rules
 
 -- "The title's permits, move rights and keys are those in that row, or in the two halves of that entry."
 pub data Holder (c : ℕ) (b : Buffers) (f : Facts) : Type 0 where

@@ -23,8 +23,9 @@ use Rattle.calls.specs.Needs.{◌needs◌}
 use Rattle.formats.specs.Head.{LedgerHead}
 use Rattle.calls.specs.Refusal.{RefusedFirst, NoneHolds}
 use Rattle.calls.proofs.Refusals.{refused_first, either_way}
-use Rattle.calls.proofs.Fresh.{fresh_heads}
+use Rattle.calls.proofs.Fresh.{each_fresh_head}
 use Rattle.calls.proofs.History.Always.{sound, heads_stay}
+use Rattle.calls.proofs.Named.{heads_pass}
 use Rattle.calls.proofs.Passed.{Tests, end, ◌then◌, answered_by, tests_ledger, tests_titles, tests_rules}
 use Rattle.tables.proofs.Told.{told_other_pair}
 use Rattle.closing_sheet.specs.Sheet.{sheet_text, sheet_conditions, sheet_refusal, sheet_writing, sheet_written_to}
@@ -70,7 +71,7 @@ after_calls : (pair : Pair) (rows application : ℕ) → Within 999 rows → app
 after_calls pair rows application in_range_lem small ks text room =
     let w = start pair rows application application in
     let b = (run pair ks w).buffers in
-    let heads = heads_stay pair ks w (fresh_heads pair rows application in_range_lem.from in_range_lem.to small) in
+    let heads = heads_pass (heads_stay pair ks w (each_fresh_head pair rows application application in_range_lem.from in_range_lem.to small small)) in
     let bytes = (sound pair rows application application in_range_lem.from in_range_lem.to ks).bytes in
     (writes_sheet pair b text).answered.done (heads.ledger, (heads.titles, (heads.rules, (omega (arith, sheet_most b bytes heads.ledger), tt))))
 

@@ -24,7 +24,7 @@ use Rattle.calls.proofs.First.{first_holds, first_least, first_none}
 use Rattle.calls.proofs.Passed.{Tests, end, ◌then◌, is_vacant_lem, tests_number, tests_ledger, tests_titles, tests_rule_head, tests_rules}
 use Rattle.calls.proofs.Refusals.{holds_not, refused_by, meets}
 use Rattle.tables.proofs.Told.{told_first, told_other_pair}
-use Rattle.inspection.specs.Inspect.{entry_told, state_told, title_told, vacant_from, first_vacant, entry_inspected, row_inspected, title_inspected, vacancy}
+use Rattle.inspection.specs.Inspect.{entry_told, state_told, title_told, vacant_from, first_vacant, entry_inspected, row_inspected, title_inspected, first_vacant_told}
 use Rattle.inspection.specs.Demand1.{InspectsEntry, InspectsRow, InspectsTitle, FirstVacant, InspectsOtherPair, EntryShows, RowShows, VacantShows, NotRefused10, TakesAtFirstVacant, Demand1Inspection}
 use Rattle.inspection.proofs.Version.{any_version}
 
@@ -50,7 +50,7 @@ inspects_title pair b c =
     (tests_number c then tests_ledger b.ledger then tests_titles pair b.titles then tests_rules pair b then tests_row b.ledger c then end) refl refl
 
 finds_vacant : (pair : Pair) (titles rules : List ℕ) (from : ℕ) → FirstVacant pair titles rules from
-unfolding vacancy
+unfolding first_vacant_told
 finds_vacant pair titles rules from =
     told_first (first_vacant from titles rules ∷ []) (tests_number from then tests_titles pair titles then tests_rule_head pair rules then end) refl refl
 

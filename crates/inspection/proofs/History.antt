@@ -1,8 +1,8 @@
 -- What inspection tells after a list of calls, by the claim of demand 3.
 -- Assumes nothing.
-use Prim.Native.Nat.{ℕ}
-use mathlib.Core.Path.{◌≡◌, refl, ap, ap₂, ◌∙◌}
-use mathlib.Core.Logic.{◌≢◌}
+use Prim.Native.Nat.{ℕ, ◌^◌, ◌<◌}
+use mathlib.Core.Path.{◌≡◌, refl, sym, ap, ap₂, ◌∙◌}
+use mathlib.Core.Logic.{◌≢◌, inl, inr}
 use mathlib.Core.List.{List, [], ◌∷◌}
 use mathlib.Core.Option.{some}
 use native.Mathlib.Omega.{arith}
@@ -11,17 +11,19 @@ use Rattle.formats.specs.declared.head.Pair.{Pair}
 use Rattle.formats.specs.declared.facts.Facts.{Facts}
 use Rattle.formats.specs.declared.row.RowState.{RowState}
 use Rattle.formats.specs.declared.row.RowState.TheVariants.{Empty, Here, Away, Gone, NoState}
-use Rattle.calls.specs.Buffers.{Buffers, state_at, copies}
+use Rattle.requests.specs.declared.request.Request.{Request}
+use Rattle.calls.specs.Buffers.{Buffers, state_at, copies, Within}
 use Rattle.calls.specs.History.{Action, actions, grant, holders, start, run}
-use Rattle.calls.proofs.Fresh.{fresh_heads}
+use Rattle.calls.specs.Needs.{RulesOfLedger}
+use Rattle.calls.proofs.Fresh.{each_fresh_head}
 use Rattle.calls.proofs.History.Always.{sound, heads_stay, history}
 use Rattle.calls.proofs.History.Step.{At, copies_in, fulls_in}
 use Rattle.calls.proofs.History.Titles.{TitleInvariant}
-use Rattle.calls.proofs.Named.{HeadsPass}
+use Rattle.calls.proofs.Named.{HeadsPass, heads_pass}
 use Rattle.calls.proofs.Views.{inside, view}
-use Rattle.tables.proofs.Told.{told_done}
+use Rattle.tables.proofs.Told.{told_done, told_refused}
 use Rattle.inspection.specs.Inspect.{title_inspected}
-use Rattle.inspection.specs.History.{InspectsOne}
+use Rattle.inspection.specs.History.{AllInspect, InspectsOne}
 use Rattle.inspection.proofs.Demand1.{inspects_title}
 
 module _ (pair : Pair) (c : ℕ) (acts : List Action) (b : Buffers) where
@@ -43,13 +45,16 @@ module _ (pair : Pair) (c : ℕ) (acts : List Action) (b : Buffers) where
       d.answered.done (record { from = row.from; to = omega (arith, row.to, heads.ledger.high) }, (heads.ledger, (heads.titles, (heads.rules, (row.to, tt))))) in
       told_done d answered ∙ ap done (ap₂ (λ (x y : ℕ). x ∷ y ∷ []) of_holders of_copies)
 
-pub inspects_one : InspectsOne
-inspects_one pair rows application in_limits small ks c f e =
+-- of one application
+all_inspect : (pair : Pair) (rows application : ℕ) → Within 999 rows → application < 2 ^ 16 → (ks : List Request)
+    → AllInspect pair (run pair ks (start pair rows application application))
+all_inspect pair rows application in_limits small ks c f e =
     let w = run pair ks (start pair rows application application) in
     let acts = actions c w.log in
     let s = sound pair rows application application in_limits.from in_limits.to ks in
     let claim = history pair rows application application in_limits.from in_limits.to ks c f e in
-    let heads = heads_stay pair ks (start pair rows application application) (fresh_heads pair rows application in_limits.from in_limits.to small) in
+    let fresh = each_fresh_head pair rows application application in_limits.from in_limits.to small small in
+    let heads = heads_pass (heads_stay pair ks (start pair rows application application) fresh) in
     let in_one = in_a_state pair c acts w.buffers f e (state_at w.buffers c) (s.inv.titles c) in
     record {
       unless_deleted = λ z.
@@ -60,4 +65,18 @@ inspects_one pair rows application in_limits small ks c f e =
             loans = stands.check_outs;
           };
       if_deleted = λ d. let none = claim.if_deleted d in told pair c acts w.buffers heads in_one none.no_holder none.no_copy;
+    }
+
+-- and of two
+pub inspects_one : InspectsOne
+inspects_one =
+    record {
+      of_one_application = all_inspect;
+      of_two = λ pair rows application card_application in_limits small card_small other ks c numbered.
+          let w = start pair rows application card_application in
+          let fresh = each_fresh_head pair rows application card_application in_limits.from in_limits.to small card_small in
+          let heads = heads_stay pair ks w fresh in
+          let d = inspects_title pair (run pair ks w).buffers c in
+          let apart : RulesOfLedger pair (run pair ks w).buffers → ⊥ = λ r. other (sym heads.of_card ∙ r.application ∙ heads.of_ledger) in
+          told_refused d 9 (λ z. omega (arith, z)) (d.answered.refused 9 (inr (numbered, inr (heads.ledger, inr (heads.titles, inl (apart, refl))))));
     }

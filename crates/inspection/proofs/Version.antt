@@ -15,14 +15,14 @@ use Rattle.formats.specs.declared.head.Pair.{Pair}
 use Rattle.formats.proofs.Part.{part_put_before, part_put_after, put_length, get_or_put_in, get_or_put_after}
 use Rattle.formats.proofs.head.Laws.{rules_pass_lem}
 use Rattle.requests.specs.declared.request.Argument.TheVariants.{Content, Entry}
-use Rattle.calls.specs.Buffers.{Buffers, buffers_of, title_at, rule_at, state_at, is_here, copy_of, full_with, copies, one, first_of, Within}
+use Rattle.calls.specs.Buffers.{Buffers, buffers_of, title_at, rule_at, state_at, is_here, copy_of, full_with, copies, full_entries, one, first_of, Within}
 use Rattle.calls.specs.Conditions.{◌limits◌}
 use Rattle.calls.specs.Refusal.{◌unless◌, first}
-use Rattle.calls.specs.History.{full_of, holders}
+use Rattle.calls.specs.History.{holders}
 use Rattle.calls.proofs.History.Totals.{total_same}
 use Rattle.calls.proofs.Passed.{numbered_within}
 use Rattle.tables.specs.Told.{told_after}
-use Rattle.inspection.specs.Inspect.{entry_told, vacant_from, first_vacant, row_condition, entry_conditions, entry_inspected, title_inspected, vacancy}
+use Rattle.inspection.specs.Inspect.{entry_told, vacant_from, first_vacant, row_condition, entry_conditions, entry_inspected, title_inspected, first_vacant_told}
 use Rattle.inspection.specs.Demand1.{with_version, SameInspected, AnyVersion}
 
 -- the first of n places goes by what a test says of these
@@ -71,12 +71,14 @@ module _ (pair : Pair) (b : Buffers) (v : ℕ) (head : RulesHead pair b.rules) (
   unfolding copies
   copies_same c = total_same 999 _ _ (λ j l. ap (λ (r : List ℕ). one (copy_of c (title_at b.titles j) r)) (rule_same j l))
 
+  full_same : (c : ℕ) → full_entries c b.titles rules ≡ full_entries c b.titles b.rules
+  unfolding full_entries
+  full_same c = total_same 999 _ _ (λ j l. ap (λ (r : List ℕ). one (full_with c (title_at b.titles j) r)) (rule_same j l))
+
   holders_same : (c : ℕ) → holders c (buffers_of b.ledger b.titles rules) ≡ holders c b
   unfolding holders
   holders_same c =
-      ap (λ (n : ℕ). one (is_here (state_at b c)) + n)
-      (total_same 999 (λ j. one (full_of c b j)) (λ j. one (full_of c (buffers_of b.ledger b.titles rules) j))
-      (λ j l. ap (λ (r : List ℕ). one (full_with c (title_at b.titles j) r)) (rule_same j l)))
+      ap (λ (n : ℕ). one (is_here (state_at b c)) + n) (full_same c)
 
   vacant_same : (from : ℕ) → first_vacant from b.titles rules ≡ first_vacant from b.titles b.rules
   unfolding first_vacant
@@ -99,7 +101,7 @@ module _ (pair : Pair) (b : Buffers) (v : ℕ) (head : RulesHead pair b.rules) (
       by false e = unfold told_after first in rw e refl
 
   same_inspected : SameInspected pair b v
-  unfolding title_inspected vacancy
+  unfolding title_inspected first_vacant_told
   same_inspected =
       record {
         entry = entry_same;

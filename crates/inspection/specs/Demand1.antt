@@ -13,38 +13,38 @@ use Rattle.requests.specs.declared.request.Request.TheVariants.{Record, CheckOut
 use Rattle.calls.specs.Buffers.{Buffers, buffers_of, title_at, rule_at, kind_at, content_at, facts_at, cci_at, title_key_at, state_in, Within}
 use Rattle.calls.specs.Needs.{◌needs◌, head_needs, Vacant}
 use Rattle.calls.specs.Perform.{perform}
-use Rattle.tables.specs.Told.{ToldFirst, ToldOtherPair}
-use Rattle.inspection.specs.Inspect.{entry_told, state_told, title_told, first_vacant, entry_conditions, row_conditions, title_conditions, entry_inspected, row_inspected, title_inspected, vacancy}
+use Rattle.tables.specs.Told.{RefusedOrTold, ToldOtherPair}
+use Rattle.inspection.specs.Inspect.{entry_told, state_told, title_told, first_vacant, entry_conditions, row_conditions, title_conditions, entry_inspected, row_inspected, title_inspected, first_vacant_told}
 
 -- REFUSED FIRST, by conditions and by needs
 
 abbrev pub InspectsEntry : Pair → List ℕ → List ℕ → ℕ → Type 0
 InspectsEntry pair titles rules j =
-    ToldFirst (5 ∷ 8 ∷ 9 ∷ []) (entry_conditions pair titles rules j)
+    RefusedOrTold (5 ∷ 8 ∷ 9 ∷ []) (entry_conditions pair titles rules j)
     (5 needs Within 999 j ∷ 8 needs TitlesHead pair titles ∷ 9 needs RulesHead pair rules ∷ []) (entry_inspected pair titles rules j)
     (entry_told (title_at titles j) (rule_at rules j))
 
 abbrev pub InspectsRow : List ℕ → ℕ → Type 0
 InspectsRow ledger c =
-    ToldFirst (4 ∷ 7 ∷ 11 ∷ []) (row_conditions ledger c) (4 needs Within 999 c ∷ 7 needs LedgerHead ledger ∷ 11 needs (c ≤ rows_of ledger) ∷ [])
+    RefusedOrTold (4 ∷ 7 ∷ 11 ∷ []) (row_conditions ledger c) (4 needs Within 999 c ∷ 7 needs LedgerHead ledger ∷ 11 needs (c ≤ rows_of ledger) ∷ [])
     (row_inspected ledger c) (state_told (state_in ledger c))
 
 abbrev pub InspectsTitle : Pair → Buffers → ℕ → Type 0
 InspectsTitle pair b c =
-    ToldFirst (4 ∷ 7 ∷ 8 ∷ 9 ∷ 11 ∷ []) (title_conditions pair b c) (4 needs Within 999 c ∷ (head_needs pair b ++ (11 needs (c ≤ rows_of b.ledger) ∷ [])))
+    RefusedOrTold (4 ∷ 7 ∷ 8 ∷ 9 ∷ 11 ∷ []) (title_conditions pair b c) (4 needs Within 999 c ∷ (head_needs pair b ++ (11 needs (c ≤ rows_of b.ledger) ∷ [])))
     (title_inspected pair b c) (title_told b c)
 
 abbrev pub FirstVacant : Pair → List ℕ → List ℕ → ℕ → Type 0
 FirstVacant pair titles rules from =
-    ToldFirst (5 ∷ 8 ∷ 9 ∷ []) (entry_conditions pair titles rules from)
-    (5 needs Within 999 from ∷ 8 needs TitlesHead pair titles ∷ 9 needs RulesHead pair rules ∷ []) (vacancy pair titles rules from)
+    RefusedOrTold (5 ∷ 8 ∷ 9 ∷ []) (entry_conditions pair titles rules from)
+    (5 needs Within 999 from ∷ 8 needs TitlesHead pair titles ∷ 9 needs RulesHead pair rules ∷ []) (first_vacant_told pair titles rules from)
     (first_vacant from titles rules ∷ [])
 
 -- a card of the other pair
 pub record InspectsOtherPair (pair : Pair) (b : Buffers) : Type 0 where
   pub entry : (j : ℕ) → ToldOtherPair pair b.titles b.rules (5 needs Within 999 j ∷ []) (entry_inspected pair b.titles b.rules j)
   pub title : (c : ℕ) → ToldOtherPair pair b.titles b.rules (4 needs Within 999 c ∷ 7 needs LedgerHead b.ledger ∷ []) (title_inspected pair b c)
-  pub vacant : (from : ℕ) → ToldOtherPair pair b.titles b.rules (5 needs Within 999 from ∷ []) (vacancy pair b.titles b.rules from)
+  pub vacant : (from : ℕ) → ToldOtherPair pair b.titles b.rules (5 needs Within 999 from ∷ []) (first_vacant_told pair b.titles b.rules from)
 
 -- WHAT IS TOLD, as facts
 
@@ -88,7 +88,7 @@ pub record NotRefused10 (pair : Pair) (b : Buffers) (j : EntryNumber) : Type 0 w
 
 abbrev pub TakesAtFirstVacant : Type 0
 TakesAtFirstVacant =
-    (pair : Pair) (b : Buffers) (from : ℕ) (j : EntryNumber) → j.0 ≢ 0 → vacancy pair b.titles b.rules from ≡ done (j.0 ∷ []) → NotRefused10 pair b j
+    (pair : Pair) (b : Buffers) (from : ℕ) (j : EntryNumber) → j.0 ≢ 0 → first_vacant_told pair b.titles b.rules from ≡ done (j.0 ∷ []) → NotRefused10 pair b j
 
 -- A LATER VERSION: "byte 3 version 11h or more (later ones are no error)"
 
@@ -100,7 +100,7 @@ with_version v rules = put rules 3 (v ∷ [])
 pub record SameInspected (pair : Pair) (b : Buffers) (v : ℕ) : Type 0 where
   pub entry : (j : ℕ) → entry_inspected pair b.titles (with_version v b.rules) j ≡ entry_inspected pair b.titles b.rules j
   pub title : (c : ℕ) → title_inspected pair (buffers_of b.ledger b.titles (with_version v b.rules)) c ≡ title_inspected pair b c
-  pub vacant : (from : ℕ) → vacancy pair b.titles (with_version v b.rules) from ≡ vacancy pair b.titles b.rules from
+  pub vacant : (from : ℕ) → first_vacant_told pair b.titles (with_version v b.rules) from ≡ first_vacant_told pair b.titles b.rules from
 
 abbrev pub AnyVersion : Type 0
 AnyVersion = (pair : Pair) (b : Buffers) (v : ℕ) → RulesHead pair b.rules → 0x11 ≤ v → SameInspected pair b v

@@ -2,7 +2,7 @@
 -- loans that are out.
 use Rattle.std.specs.Prelude.{ℕ, ◌+◌, ◌^◌, ◌<◌, ◌≡◌, ◌≢◌, List, [], ◌∷◌}
 use Rattle.std.proofs.Math.Option.{some}
-use Rattle.formats.specs.Answer.{done}
+use Rattle.formats.specs.Answer.{done, refused}
 use Rattle.formats.specs.declared.head.Pair.{Pair}
 use Rattle.formats.specs.declared.facts.Facts.{Facts}
 use Rattle.requests.specs.declared.request.Request.{Request}
@@ -25,8 +25,12 @@ pub record TitleInspects (pair : Pair) (c : ℕ) (acts : List Action) (b : Buffe
 abbrev pub AllInspect : Pair → Run → Type 0
 AllInspect pair w = (c : ℕ) (f : Facts) → grant (actions c w.log) ≡ some f → TitleInspects pair c (actions c w.log) w.buffers
 
--- after every list of calls from a fresh ledger and card of one application; of two applications every title is answered 9
-abbrev pub InspectsOne : Type 0
-InspectsOne =
-    (pair : Pair) (rows application : ℕ) → Within 999 rows → application < 2 ^ 16 → (ks : List Request)
-    → AllInspect pair (run pair ks (start pair rows application application))
+-- after every list of calls from a fresh ledger and card, "whatever R and the application numbers"
+pub record InspectsOne : Type 0 where
+  pub of_one_application : (pair : Pair) (rows application : ℕ) → Within 999 rows → application < 2 ^ 16 → (ks : List Request)
+      → AllInspect pair (run pair ks (start pair rows application application))
+  -- a card of another application is not looked at beside this ledger, whatever title is asked for: "9 .. its application number other
+  -- than the ledger's included"
+  pub of_two : (pair : Pair) (rows application card_application : ℕ) → Within 999 rows → application < 2 ^ 16 → card_application < 2 ^ 16
+      → card_application ≢ application → (ks : List Request) (c : ℕ) → Within 999 c
+      → title_inspected pair (run pair ks (start pair rows application card_application)).buffers c ≡ refused 9

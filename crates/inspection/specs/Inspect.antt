@@ -104,17 +104,17 @@ row_inspected ledger c = told_after (row_conditions ledger c) (state_told (state
 unfoldable pub title_inspected : Pair → Buffers → ℕ → Answer
 title_inspected pair b c = told_after (title_conditions pair b c) (title_told b c)
 
-unfoldable pub vacancy : Pair → List ℕ → List ℕ → ℕ → Answer
-vacancy pair titles rules from = told_after (entry_conditions pair titles rules from) (first_vacant from titles rules ∷ [])
+unfoldable pub first_vacant_told : Pair → List ℕ → List ℕ → ℕ → Answer
+first_vacant_told pair titles rules from = told_after (entry_conditions pair titles rules from) (first_vacant from titles rules ∷ [])
 
 -- THE VALUES of what the code finds: of an entry's contents the number and values of each case
 
 abbrev pub entry_values : EntryContents → List ℕ
-entry_values FreeEntry = 0 ∷ 0 ∷ fact_values no_facts
-entry_values (CopyEntry c cci key) = 1 ∷ c.0 ∷ cci ∷ 0 ∷ 0 ∷ 0 ∷ key ∷ 0 ∷ []
-entry_values (FullEntry c f) = 2 ∷ c.0 ∷ fact_values f
-entry_values TornEntry = 3 ∷ 0 ∷ fact_values no_facts
-entry_values (SpentEntry c) = 4 ∷ c.0 ∷ fact_values no_facts
+entry_values FreeEntry = kind_number Free ∷ 0 ∷ fact_values no_facts
+entry_values (CopyEntry c cci key) = kind_number Copy ∷ c.0 ∷ cci ∷ 0 ∷ 0 ∷ 0 ∷ key ∷ 0 ∷ []
+entry_values (FullEntry c f) = kind_number Full ∷ c.0 ∷ fact_values f
+entry_values TornEntry = kind_number Torn ∷ 0 ∷ fact_values no_facts
+entry_values (SpentEntry c) = kind_number Spent ∷ c.0 ∷ fact_values no_facts
 
 abbrev pub title_values : TitleCounts → List ℕ
 title_values t = t.holders ∷ t.copies ∷ []

@@ -3,12 +3,11 @@
 #![tactic(auto)]
 
 ghost use Rattle.std.specs.Prelude.{◌≡◌, ◌≤◌, [], ◌∷◌};
-ghost use Rattle.formats.specs.Entry.{kind_of, is_vacant};
 ghost use Rattle.formats.specs.Refusal.{answer_number, answer_of};
 ghost use Rattle.calls.specs.Buffers.{state_in, is_here, one};
 ghost use Rattle.calls.specs.Refusal.{first};
 ghost use Rattle.tables.specs.Shop.{lent};
-ghost use Rattle.inspection.specs.Inspect.{entry_told, entry_values, state_told, title_told, title_values, row_condition, entry_conditions, row_conditions, title_conditions, entry_inspected, row_inspected, title_inspected, first_vacant, vacancy};
+ghost use Rattle.inspection.specs.Inspect.{entry_told, entry_values, state_told, title_told, title_values, row_condition, entry_conditions, row_conditions, title_conditions, entry_inspected, row_inspected, title_inspected, first_vacant, first_vacant_told};
 
 use formats::entry::{Entry, EntryKind};
 use formats::facts::{ContentId, EntryNumber, Facts};
@@ -164,21 +163,13 @@ pub fn title(pair: Pair, shop: Shop, content: ContentId) -> Result<TitleCounts, 
 
 // THE FIRST VACANT ENTRY
 
-// Whether a title may be put in an entry. The rule half is asked after the title half, and of an entry in use not at all: with
-// `Entry::is_vacant`, which asks both at once, a search over a card in use takes half as long again.
-fn is_vacant(entry: Entry) -> bool
-    ensures { result ≡ is_vacant (kind_of entry.entry.title.now entry.entry.rule.now) }
-{
-    !half::usable(entry.title) && !half::usable(entry.rule)
-}
-
 // The number of the first entry from this one on that is free or spent; 0 where there is none.
 fn search_vacant(card: Card, from: EntryNumber) -> u64
     requires { 1 ≤ from.0 }
     ensures { result ≡ first_vacant from.0 card.entry.titles.now card.entry.rules.now }
 {
     for j in from.0..=facts::LAST_NUMBER {
-        if is_vacant(card.entry(EntryNumber(j))) {
+        if card.entry(EntryNumber(j)).is_vacant_in_turn() {
             return j;
         }
     }
@@ -187,7 +178,7 @@ fn search_vacant(card: Card, from: EntryNumber) -> u64
 
 // The same, or the refusal, 5, 8 or 9.
 pub fn first_vacant(pair: Pair, card: Card, from: EntryNumber) -> Result<u64, Refusal>
-    ensures { answer_of (λ j. j ∷ []) result ≡ vacancy pair card.entry.titles.now card.entry.rules.now from.0 }
+    ensures { answer_of (λ j. j ∷ []) result ≡ first_vacant_told pair card.entry.titles.now card.entry.rules.now from.0 }
 {
     check_entry(pair, card, from)?;
     Ok(search_vacant(card, from))

@@ -2,7 +2,7 @@
 -- Assumes nothing.
 use Prim.Native.Nat.{ℕ}
 use mathlib.Core.Path.{◌≡◌, refl, sym, ap, ap₂, ◌∙◌}
-use mathlib.Core.Logic.{inl, inr}
+use mathlib.Core.Logic.{◌≢◌, inl, inr}
 use mathlib.Core.List.{List, [], ◌∷◌, ◌++◌}
 use mathlib.Core.Bool.{Bool, true, false, cond}
 use native.Mathlib.Decide.{ℕ_discrete}
@@ -16,7 +16,7 @@ use Rattle.calls.specs.Needs.{Need, ◌needs◌, AllMet, FirstUnmet, AnsweredBy}
 use Rattle.calls.proofs.Refusals.{refusing, refused_first}
 use Rattle.calls.proofs.Passed.{InStep, answered_by}
 use Rattle.calls.proofs.Pairs.{other_titles, other_rules}
-use Rattle.tables.specs.Told.{told_after, ToldFirst, ToldOtherPair}
+use Rattle.tables.specs.Told.{told_after, RefusedOrTold, ToldOtherPair}
 
 -- WHAT CODE ANSWERS
 module _ (cs : List Condition) (values : List ℕ) {w : ℕ} (e : w ≡ first cs) where
@@ -39,7 +39,7 @@ values_are true n values = refl
 values_are false n values = refl
 
 pub told_first : {numbers : List ℕ} {cs : List Condition} {needed : List Need} (values : List ℕ) → InStep cs needed → numbers_of cs ≡ numbers
-    → refusing cs ≡ true → ToldFirst numbers cs needed (told_after cs values) values
+    → refusing cs ≡ true → RefusedOrTold numbers cs needed (told_after cs values) values
 unfolding told_after
 told_first {cs = cs} values step numbers refuses =
     let n = first cs in
@@ -51,7 +51,7 @@ told_first {cs = cs} values step numbers refuses =
     }
 
 -- so where it is answered 0 it is done with the values
-pub told_done : {numbers : List ℕ} {cs : List Condition} {needed : List Need} {answer : Answer} {values : List ℕ} → ToldFirst numbers cs needed answer values
+pub told_done : {numbers : List ℕ} {cs : List Condition} {needed : List Need} {answer : Answer} {values : List ℕ} → RefusedOrTold numbers cs needed answer values
     → answer.number ≡ 0 → answer ≡ done values
 told_done told zero = ap₂ case zero (told.refused_first.carried_out zero)
 
@@ -59,6 +59,11 @@ told_done told zero = ap₂ case zero (told.refused_first.carried_out zero)
 first_after : (n : ℕ) (before rest : List Need) → AllMet before → FirstUnmet n rest → FirstUnmet n (before ++ rest)
 first_after n [] rest met unmet = unmet
 first_after n ((m needs P) ∷ before) rest met unmet = inr (met.0, first_after n before rest met.1 unmet)
+
+-- and where it is answered another number, it has no value
+pub told_refused : {numbers : List ℕ} {cs : List Condition} {needed : List Need} {answer : Answer} {values : List ℕ} → RefusedOrTold numbers cs needed answer values
+    → (n : ℕ) → n ≢ 0 → answer.number ≡ n → answer ≡ refused n
+told_refused told n some e = ap₂ case e (told.refused_first.unchanged (λ z. some (sym e ∙ z)))
 
 -- on a card of the other pair, whatever else is needed of the rule table
 pub told_other_pair : (pair : Pair) (titles rules : List ℕ) (before after : List Need) {R : Type 0} {answer : Answer} → (R → RulesHead pair rules)

@@ -1,7 +1,7 @@
--- Copies and full entries of a title among three entries of a card that are looked at together, and how many it has in full.
+-- Copies and full entries of a title among three entries of a card that are looked at together.
 use Rattle.std.specs.Prelude.{ℕ, ◌+◌, List, Bool, not, ◌||◌, length, eqb}
 use Rattle.formats.specs.Half.{flagged_with}
-use Rattle.calls.specs.Buffers.{title_at, rule_at, copy_of, full_with, one, total, first_of}
+use Rattle.calls.specs.Buffers.{title_at, rule_at, copy_of, full_with, one, first_of}
 
 -- whether entry j is a copy of c
 abbrev pub copy_at : ℕ → List ℕ → List ℕ → ℕ → Bool
@@ -10,10 +10,6 @@ copy_at c titles rules j = copy_of c (title_at titles j) (rule_at rules j)
 -- whether it is full with the title c
 abbrev pub full_at : ℕ → List ℕ → List ℕ → ℕ → Bool
 full_at c titles rules j = full_with c (title_at titles j) (rule_at rules j)
-
--- how many entries of a card are
-unfoldable pub full_entries : ℕ → List ℕ → List ℕ → ℕ
-full_entries c titles rules = total 999 (λ j. one (full_at c titles rules j))
 
 -- whether one of the three from entry j on may be either: in a table of the right length, by flag and ID
 unfoldable pub may_hold : ℕ → List ℕ → ℕ → Bool

@@ -9,7 +9,7 @@ use Rattle.calls.specs.Refusal.{RefusedFirst}
 use Rattle.calls.specs.Needs.{◌needs◌, AnsweredBy}
 use Rattle.tables.specs.Format.{ledger_conditions, ledger_formatting, formatted_ledger, card_conditions, card_formatting, formatted_titles, formatted_rules}
 use Rattle.tables.specs.Tally.{tally_conditions, tallied}
-use Rattle.tables.specs.Told.{ToldFirst, ToldOtherPair}
+use Rattle.tables.specs.Told.{RefusedOrTold, ToldOtherPair}
 
 -- "Formatting tests 4, then exact lengths by 7, 8 and 9, and looks at no bytes.": a ledger
 pub record FormatsLedger (ledger : List ℕ) (rows application : ℕ) : Type 0 where
@@ -30,7 +30,7 @@ pub record FormatsCard (pair : Pair) (titles rules : List ℕ) (application : �
 -- the tally
 abbrev pub Tallies : Pair → List ℕ → List ℕ → ℕ → Type 0
 Tallies pair titles rules c =
-    ToldFirst (4 ∷ 8 ∷ 9 ∷ []) (tally_conditions pair titles rules c)
+    RefusedOrTold (4 ∷ 8 ∷ 9 ∷ []) (tally_conditions pair titles rules c)
     (4 needs Within 999 c ∷ 8 needs TitlesHead pair titles ∷ 9 needs RulesHead pair rules ∷ []) (tallied pair titles rules c) (copies c titles rules ∷ [])
 
 abbrev pub TalliesOtherPair : Pair → List ℕ → List ℕ → ℕ → Type 0

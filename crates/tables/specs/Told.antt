@@ -18,7 +18,7 @@ card_head_conditions pair titles rules = 8 unless titles_pass pair titles ∷ 9 
 
 -- DEMAND 1 of what is told so, in the two forms in which it is said of the calls: by conditions, and by needs in the paper's words. A
 -- refusal has no value; where nothing refuses, these values are told
-pub record ToldFirst (numbers : List ℕ) (cs : List Condition) (needed : List Need) (answer : Answer) (values : List ℕ) : Type 0 where
+pub record RefusedOrTold (numbers : List ℕ) (cs : List Condition) (needed : List Need) (answer : Answer) (values : List ℕ) : Type 0 where
   pub refused_first : RefusedFirst (List ℕ) numbers cs answer.number [] answer.values values
   pub answered : AnsweredBy needed answer.number
 

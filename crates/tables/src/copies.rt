@@ -1,8 +1,8 @@
 // The copies of a title on a card, and the full entries with it.
 ghost use Rattle.std.specs.Prelude.{◌≡◌, not, ◌+◌, ◌*◌, ◌≤◌, eqb, length};
 ghost use Rattle.formats.specs.Half.{flagged_with};
-ghost use Rattle.calls.specs.Buffers.{title_at, copy_of, full_with, copies, one, entries_searched};
-ghost use Rattle.tables.specs.Copies.{copy_at, full_at, full_entries, may_hold, in_three, first_of_three};
+ghost use Rattle.calls.specs.Buffers.{title_at, copy_of, full_with, copies, full_entries, one, entries_searched};
+ghost use Rattle.tables.specs.Copies.{copy_at, full_at, may_hold, in_three, first_of_three};
 
 use crate::card::Card;
 use formats::entry::Entry;

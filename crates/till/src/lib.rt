@@ -8,7 +8,7 @@
 
 pub mod given;
 
-ghost use Rattle.std.specs.Prelude.{◌≡◌, ◌∷◌, map};
+ghost use Rattle.std.specs.Prelude.{◌≡◌, [], ◌∷◌, map};
 ghost use Rattle.std.specs.Result.{result_unwrap_or};
 ghost use Rattle.formats.specs.Refusal.{answer_number};
 ghost use Rattle.requests.specs.declared.request.Request.TheVariants.{Register, Record, CheckOut, CheckIn, MoveOut, MoveIn, Delete};
@@ -17,7 +17,7 @@ ghost use Rattle.calls.specs.Report.{move_in_report};
 ghost use Rattle.tables.specs.Format.{ledger_formatting, formatted_ledger, card_formatting, formatted_titles, formatted_rules};
 ghost use Rattle.tables.specs.Tally.{tallied};
 ghost use Rattle.formats.specs.Facts.{fact_values};
-ghost use Rattle.inspection.specs.Inspect.{entry_values, state_told, entry_inspected, row_inspected, title_inspected, vacancy};
+ghost use Rattle.inspection.specs.Inspect.{entry_values, state_told, title_values, entry_inspected, row_inspected, title_inspected, first_vacant_told};
 ghost use Rattle.closing_sheet.specs.Sheet.{sheet_writing, sheet_written_to};
 ghost use Rattle.music_counter.specs.Answer.{Answers, AnswersByLedger};
 ghost use Rattle.music_counter.specs.Preview.{AnswersGiven, AnswersPreview};
@@ -36,7 +36,7 @@ use formats::head::Pair;
 use formats::refusal;
 use formats::refusal::Refusal;
 use formats::row::RowState;
-use inspection::EntryContents;
+use inspection::{EntryContents, TitleCounts};
 use music_counter::preview::Given;
 use music_counter::{check_in, check_out, delete, move_in, move_out, preview, record, register};
 use requests::request;
@@ -118,6 +118,13 @@ fn tell_row(found: RowState, state: &mut u64, facts: &mut [u64; 6])
         RowState::Gone => (*state, *facts) = (3, [0; 6]),
         RowState::NoState => (*state, *facts) = (4, [0; 6]),
     }
+}
+
+// And of a title, its holders and its copies.
+fn tell_title(found: TitleCounts, holders: &mut u64, copies: &mut u64)
+    ensures { holders.new ∷ copies.new ∷ [] ≡ title_values found }
+{
+    (*holders, *copies) = (found.holders, found.copies);
 }
 
 // Answers 0, or 4 or 7 with nothing changed.
@@ -436,8 +443,7 @@ pub extern "C" fn counter_inspect_title(
     let shop = Shop::new(ledger, titles, rules);
     match inspection::title(pair_of(pair), shop, ContentId(content)) {
         Ok(found) => {
-            *holders = found.holders;
-            *copies = found.copies;
+            tell_title(found, holders, copies);
             0
         }
         Err(refusal) => u64::from(refusal),
@@ -453,9 +459,9 @@ pub extern "C" fn counter_first_vacant(
     from: u64,
     entry: &mut u64,
 ) -> u64
-    ensures answer { result ≡ (vacancy (pair_of pair) titles.now rules.now from).number }
+    ensures answer { result ≡ (first_vacant_told (pair_of pair) titles.now rules.now from).number }
     ensures entry_told { entry.new
-        ≡ value_after 0 (vacancy (pair_of pair) titles.now rules.now from) entry.old }
+        ≡ value_after 0 (first_vacant_told (pair_of pair) titles.now rules.now from) entry.old }
 {
     let found = inspection::first_vacant(pair_of(pair), Card { titles, rules }, EntryNumber(from));
     tell(found, entry)

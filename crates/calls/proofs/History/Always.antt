@@ -26,9 +26,9 @@ use Rattle.calls.specs.Effect.{copy_cci}
 use Rattle.calls.specs.Perform.{perform, AreBytes}
 use Rattle.calls.specs.History.{Answered, Log, last_at, Action, actions, times, grant, Run, next, start, run, holders, Holder, in_row, in_entry, TitleClaim, History}
 use Rattle.calls.proofs.Refusals.{unchanged}
-use Rattle.calls.proofs.Named.{HeadsPass}
+use Rattle.calls.proofs.Named.{Heads}
 use Rattle.calls.proofs.Passed.{needs_met}
-use Rattle.calls.proofs.Untouched.{heads_kept}
+use Rattle.calls.proofs.Untouched.{each_head_kept}
 use Rattle.calls.proofs.InBounds.{in_bounds}
 use Rattle.calls.proofs.Fresh.{fresh_empty, fresh_free, fresh_bytes}
 use Rattle.calls.proofs.Views.{place_by, copy_is, view, full_entry, copies_seen, fulls_seen}
@@ -151,11 +151,12 @@ unfolding run
 rows_stay pair [] w s c in_one = in_one
 rows_stay pair (k ∷ ks) w s c in_one = rows_stay pair ks (next pair k w) (goes_on pair k w s) c (row_stays pair k w s c in_one)
 
--- THE HEADS STAY RIGHT
-pub heads_stay : (pair : Pair) (ks : List Request) (w : Run) → HeadsPass pair w.buffers → HeadsPass pair (run pair ks w).buffers
+-- THE HEADS STAY AS THEY WERE
+pub heads_stay : (pair : Pair) (ks : List Request) (w : Run) {application card_application : ℕ} → Heads pair application card_application w.buffers
+    → Heads pair application card_application (run pair ks w).buffers
 unfolding run
 heads_stay pair [] w h = h
-heads_stay pair (k ∷ ks) w h = heads_stay pair ks (next pair k w) (heads_kept pair k w.buffers h)
+heads_stay pair (k ∷ ks) w h = heads_stay pair ks (next pair k w) (each_head_kept pair k w.buffers h)
 
 -- WHAT IT SAYS OF A TITLE
 

@@ -5,9 +5,9 @@ use mathlib.Core.Path.{ap₂}
 use mathlib.Core.List.{[], ◌∷◌}
 use mathlib.Core.Bool.{Bool, true, false}
 use native.Mathlib.Omega.{arith}
-use Rattle.calls.specs.Buffers.{is_here, one, state_in}
+use Rattle.calls.specs.Buffers.{is_here, one, state_in, full_entries}
 use Rattle.calls.specs.History.{holders}
-use Rattle.tables.specs.Copies.{full_at, full_entries}
+use Rattle.tables.specs.Copies.{full_at}
 use Rattle.tables.proofs.PerTitle.{ones}
 use Rattle.inspection.proofs.counts.Goals as goal
 
@@ -23,7 +23,7 @@ overflow_add-result c =
     omega (arith, c.holders_in_row.ensures, c.with_title-found.ensures.full)
 
 pub returns : goal.returns
-unfolding holders full_entries
+unfolding holders
 returns c =
     let found = c.with_title-found.ensures in
     ap₂ (λ (h n : ℕ). h ∷ n ∷ []) (ap₂ (λ (h n : ℕ). h + n) c.holders_in_row.ensures found.full) found.copies

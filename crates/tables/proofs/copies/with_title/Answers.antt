@@ -3,8 +3,8 @@
 use Rattle.std.proofs.Common.{◌+◌, ◌*◌, sym, ap, ◌∙◌}
 use Prim.Native.Nat.{ℕ}
 use native.Mathlib.Omega.{arith}
-use Rattle.calls.specs.Buffers.{copies}
-use Rattle.tables.specs.Copies.{copy_at, full_at, full_entries}
+use Rattle.calls.specs.Buffers.{copies, full_entries}
+use Rattle.tables.specs.Copies.{copy_at, full_at}
 use Rattle.tables.proofs.Counting.{start, done}
 use Rattle.tables.proofs.Three.{at_most_three, all_three, copy_needs_flag, full_needs_flag, none_of_three}
 use Rattle.tables.proofs.copies.with_title.Goals as goal
