@@ -1,7 +1,8 @@
 /*
  * One title's way through a till: registered, lent, returned, moved to the card and back, deleted. Beside it a picture, lent
- * and returned. Then a call as request bytes, written and read back, and a basket of requests, previewed and committed. Last
- * it is shown what stands on the card and in the ledger.
+ * and returned. Then a call as request bytes, written and read back, and a basket of requests, previewed and committed. Then
+ * it shows what stands on the card and in the ledger, and puts titles in the first entries that take them. Last come streams of
+ * requests.
  */
 #include <inttypes.h>
 #include <stdio.h>
@@ -38,6 +39,16 @@ static uint8_t scratch_rules[sizeof rules];
 #define SCRATCH_TITLES scratch_titles, sizeof scratch_titles
 #define SCRATCH_RULES scratch_rules, sizeof scratch_rules
 
+/* What keys are overwritten with; a till takes fresh random numbers. */
+static const uint64_t f1 = 0xf1a0a1a2a3a4a5a6, f2 = 0xf2b0b1b2b3b4b5b6, f3 = 0xf3c0c1c2c3c4c5c6, f4 = 0xf4d0d1d2d3d4d5d6;
+
+static uint64_t another_filler(void)
+{
+    static uint64_t filler = 0xf5e0e1e2e3e4e5e6;
+
+    return filler += 0x0123456789abcdef;
+}
+
 static void show(const char *step, uint64_t answer)
 {
     printf("%-44s %2" PRIu64 "  %s\n", step, answer, counter_text(answer));
@@ -62,8 +73,35 @@ static void show_move_in(const char *step, uint64_t content, uint64_t entry, uin
     printf("    entries read: %" PRIu64 "\n", entries_read);
 }
 
+/* The first entry of the card that is of this kind and has this title, or 0 where there is none. A call on entry 0 is refused. */
+static uint64_t find_entry(uint64_t kind, uint64_t content)
+{
+    uint64_t kind_here, content_here, facts[COUNTER_FACT_COUNT];
+
+    for (uint64_t entry = 1; entry <= COUNTER_LAST_ENTRY; entry++)
+        if (counter_inspect_entry(COUNTER_AUDIO, TITLES, RULES, entry, &kind_here, &content_here, facts) == COUNTER_DONE &&
+            kind_here == kind && content_here == content)
+            return entry;
+    return 0;
+}
+
+/* A copy comes back: the till knows its title, and finds its entry. Answered 16, the check-in is made with another filler. */
+static void take_back(const char *step, uint64_t content, uint64_t filler)
+{
+    const uint64_t entry = find_entry(COUNTER_ENTRY_COPY, content);
+    uint64_t answer;
+
+    printf("a copy of title %" PRIu64 " is in entry %" PRIu64 "\n", content, entry);
+    answer = counter_check_in(COUNTER_AUDIO, LEDGER, TITLES, RULES, entry, filler);
+    show(step, answer);
+    while (answer == COUNTER_FILLER) {
+        answer = counter_check_in(COUNTER_AUDIO, LEDGER, TITLES, RULES, entry, another_filler());
+        show("  again, with another filler", answer);
+    }
+}
+
 /* The same functions serve pictures; the pair says which tables they are lent, and other tables are refused. */
-static void lend_a_picture(uint64_t f1)
+static void lend_a_picture(void)
 {
     /* Picture 1: no more generations, no moves, loans without a limit. Its STI key is a random number of the module. */
     const uint64_t picture = 1, cci = 3, trigger = 0, rights = 0, permits = COUNTER_UNLIMITED;
@@ -89,18 +127,25 @@ static void show_request(uint64_t kind, const uint64_t arguments[COUNTER_ARGUMEN
     uint8_t bytes[COUNTER_LONGEST_REQUEST];
     uint64_t read_kind, read[COUNTER_ARGUMENTS];
     size_t used, again;
+    uint64_t answer = counter_write_request(bytes, sizeof bytes, kind, arguments, &used);
 
-    show("write a request", counter_write_request(bytes, sizeof bytes, kind, arguments, &used));
+    show("write a request", answer);
+    if (answer != COUNTER_DONE)
+        return;
     printf("   ");
     for (size_t i = 0; i < used; i++)
         printf(" %02x", bytes[i]);
     printf("\n");
-    show("read it back", counter_read_request(bytes, used, &read_kind, read, &again));
-    printf("    kind %" PRIu64 ", content %" PRIu64 ", entry %" PRIu64 ", from %zu bytes\n", read_kind, read[0], read[1], again);
+    answer = counter_read_request(bytes, used, &read_kind, read, &again);
+    show("read it back", answer);
+    if (answer != COUNTER_DONE)
+        return;
+    printf("    kind %" PRIu64 ", content %" PRIu64 ", entry %" PRIu64 ", from %zu bytes\n", read_kind, read[0], read[1],
+           again);
 }
 
 /* The clerk sees what each request would be answered, on what those before it leave, and then commits them. */
-static void serve_a_basket(uint64_t f1)
+static void serve_a_basket(void)
 {
     /* The arguments of each call in their order. Title 2 has one permit, so it is lent to entry 8 once entry 7 is back. */
     const struct counter_request basket[COUNTER_BASKET_SIZE] = {
@@ -173,24 +218,84 @@ static void show_what_is_there(void)
     printf("    entry %" PRIu64 "\n", vacant);
 }
 
-int main(void)
+/* The first entry that takes a title, or 0 where the card has none. */
+static uint64_t first_vacant(void)
+{
+    uint64_t entry = 0;
+
+    show("first vacant entry", counter_first_vacant(COUNTER_AUDIO, TITLES, RULES, 1, &entry));
+    printf("    entry %" PRIu64 "\n", entry);
+    return entry;
+}
+
+/* A title that is sold onto the card at once: its row is away without ever having been here. */
+static void record_title_3(void)
+{
+    const uint64_t title = 3, cci = 0, trigger = 0, rights = 2, permits = 4;
+    const uint64_t title_key = 0x13579bdf02468a, sti_key = 0xa86420fdb97531, hash = 0xfedcba9876543210;
+    const uint64_t entry = first_vacant();
+
+    show("record title 3 in it", counter_record(COUNTER_AUDIO, LEDGER, TITLES, RULES, title, entry, cci, trigger, rights,
+                                                permits, title_key, sti_key, hash));
+    show_entry(entry);
+}
+
+static void lend_title_2_again(void)
+{
+    uint64_t entry;
+
+    take_back("check it in", 2, f1);
+    entry = first_vacant();
+    show("check out title 2 to it", counter_check_out(COUNTER_AUDIO, LEDGER, TITLES, RULES, 2, entry));
+    show_entry(entry);
+}
+
+/* Requests from a log or a line, up to their end or to one that cannot be read. One that is refused stops nothing. */
+static void serve(const uint8_t *bytes, size_t bytes_len)
+{
+    const char *const kinds[] = {"no kind", "  register", "  record", "  check out", "  check in", "  move out", "  move in",
+                                 "  delete"};
+    struct counter_request request;
+    size_t at = 0, used;
+
+    printf("serve %zu bytes\n", bytes_len);
+    while (at < bytes_len) {
+        uint64_t answer = counter_read_request(bytes + at, bytes_len - at, &request.kind, request.arguments, &used);
+
+        if (answer != COUNTER_DONE) {
+            show("  no request", answer);
+            return;
+        }
+        show(kinds[request.kind], counter_perform(COUNTER_AUDIO, LEDGER, TITLES, RULES, &request));
+        at += used;
+    }
+    printf("  the end\n");
+}
+
+static void serve_streams(void)
+{
+    /* Title 4 is registered with one permit, lent to entry 20, not to entry 21 too, and taken back. */
+    const uint8_t whole[] = {1, 4, 0, 0, 15, 1, 5, 6, 3, 4, 20, 3, 4, 21, 4, 20, 9};
+    /* It is lent to entry 20 again. Then comes a check-out without its entry number. */
+    const uint8_t cut[] = {3, 4, 20, 3, 4};
+
+    serve(whole, sizeof whole);
+    serve(cut, sizeof cut);
+}
+
+static void serve_title_1(void)
 {
     /* Title 1: one generation, three moves, one copy at a time. The card's secure module supplies keys and hash. */
     const uint64_t title = 1, cci = 2, trigger = 0, rights = 3, permits = 1;
     const uint64_t title_key = 0x11223344556677, sti_key = 0x8899aabbccddee, hash = 0x0123456789abcdef;
-    /* What keys are overwritten with; a till takes fresh random numbers. */
-    const uint64_t f1 = 0xf1a0a1a2a3a4a5a6, f2 = 0xf2b0b1b2b3b4b5b6, f3 = 0xf3c0c1c2c3c4c5c6, f4 = 0xf4d0d1d2d3d4d5d6;
 
-    show("format a ledger", counter_format_ledger(LEDGER, ROWS, APPLICATION));
-    show("format a card", counter_format_card(COUNTER_AUDIO, TITLES, RULES, APPLICATION));
     show("register title 1", counter_register(LEDGER, title, cci, trigger, rights, permits, title_key, sti_key));
 
     show("check out to entry 7", counter_check_out(COUNTER_AUDIO, LEDGER, TITLES, RULES, title, 7));
     show("check out to entry 8 too", counter_check_out(COUNTER_AUDIO, LEDGER, TITLES, RULES, title, 8));
     show_copies(COUNTER_AUDIO, TITLES, RULES, title);
     show_move_in("move in to entry 9 while a copy is out", title, 9, hash);
-    show("check in entry 7, its own key as the filler", counter_check_in(COUNTER_AUDIO, LEDGER, TITLES, RULES, 7, title_key));
-    show("check in entry 7", counter_check_in(COUNTER_AUDIO, LEDGER, TITLES, RULES, 7, f1));
+    take_back("check it in, its own key as the filler", title, title_key);
     show_copies(COUNTER_AUDIO, TITLES, RULES, title);
 
     show_move_in("move in to entry 9", title, 9, hash);
@@ -204,13 +309,22 @@ int main(void)
     show("delete entry 10", counter_delete(COUNTER_AUDIO, LEDGER, TITLES, RULES, 10, f1, f2, f3, f4));
     show("delete entry 10 again", counter_delete(COUNTER_AUDIO, LEDGER, TITLES, RULES, 10, f1, f2, f3, f4));
     show("register title 1 again", counter_register(LEDGER, title, cci, trigger, rights, permits, title_key, sti_key));
+}
 
-    lend_a_picture(f1);
+int main(void)
+{
+    show("format a ledger", counter_format_ledger(LEDGER, ROWS, APPLICATION));
+    show("format a card", counter_format_card(COUNTER_AUDIO, TITLES, RULES, APPLICATION));
+    serve_title_1();
+    lend_a_picture();
 
     /* check-out of title 5 to entry 999; the places after a kind's arguments count for nothing */
     show_request(COUNTER_CHECK_OUT, (const uint64_t[COUNTER_ARGUMENTS]){5, 999});
 
-    serve_a_basket(f1);
+    serve_a_basket();
     show_what_is_there();
+    record_title_3();
+    lend_title_2_again();
+    serve_streams();
     return 0;
 }

@@ -29,3 +29,4 @@ done; then
     exit 1
 fi
 cp "crates/$name/out/$file" "$folder"
+echo "built $folder/$file" >&2

@@ -151,7 +151,11 @@ pair() {
 
 # The declarations of the header's functions and of its struct, without their layout, as a checksum.
 declarations() {
-    sed -n '/^uint64_t counter_/,/;$/p; /^struct counter_/,/^};$/p' "$header" | tr -s ' \n' ' ' | cksum | cut -d' ' -f1
+    awk '
+        /^uint64_t counter_/ { inside = 1; end = ";$" }
+        /^struct counter_/ { inside = 1; end = "^};$" }
+        inside
+        inside && $0 ~ end { inside = 0 }' "$header" | tr -s ' \n' ' ' | cksum | cut -d' ' -f1
 }
 
 interface=$(sed -nE 's@^Interface: ([0-9]+), declarations ([0-9]+)$@\1 \2@p' docs/landings/*.md | sort -n | tail -n 1)

@@ -4,19 +4,19 @@ use Prim.Native.Nat.{ℕ, ◌*◌, ◌≤◌, ◌<◌, ◌%◌, ◌^◌}
 use mathlib.Core.Path.{◌≡◌, refl, sym, ap, ap₂, subst, ◌∙◌}
 use mathlib.Core.Logic.{◌≢◌}
 use mathlib.Core.List.{List, [], ◌∷◌}
-use mathlib.Core.Option.{Option, none, some}
 use mathlib.Core.Bool.{Bool, true, false, cond}
 use native.Mathlib.Omega.{arith}
 use native.Mathlib.Decide.{dec_lt, ℕ_discrete}
 use lib.ListN.{length, get_or}
 use lib.Dec.{eqb}
+use Rattle.std.specs.Prelude.{Option, None, Some}
 use Rattle.formats.specs.declared.head.Pair.{Pair}
 use Rattle.formats.specs.declared.head.Pair.TheVariants.{Audio}
 use Rattle.formats.specs.Part.{part, put}
 use Rattle.formats.specs.Half.{key_of, id_of, wiped}
 use Rattle.formats.specs.Title.{cci_of, title_half}
 use Rattle.formats.specs.Rule.{hash_of, rule_half, wiped_rule}
-use Rattle.formats.specs.Entry.{kind_of, entry_facts}
+use Rattle.formats.specs.Entry.{kind_of, entry_facts, is_full}
 use Rattle.formats.specs.Head.{LedgerHead}
 use Rattle.formats.specs.Row.{state_of, here_row, with_permits}
 use Rattle.formats.specs.declared.facts.Facts.{Facts}
@@ -37,7 +37,7 @@ use Rattle.formats.proofs.rule.Laws.{length_rule_half, rule_hash, rule_wiped}
 use Rattle.formats.proofs.entry.Laws.{vacant_rule, of_full, kind_copy, kind_full, copy_wiped, both_wiped, entry_facts_back, entry_facts_range, entry_keys}
 use Rattle.formats.proofs.row.Laws.{here_length, plain_length, state_here, state_plain_away, state_plain_gone, state_permits, here_facts_lem, here_keys}
 use Rattle.calls.specs.Count.{one_less, one_more}
-use Rattle.calls.specs.Buffers.{Buffers, buffers_of, row_at, title_at, rule_at, state_at, row_facts, here_facts, kind_at, content_at, facts_at, is_full, with_row, Within}
+use Rattle.calls.specs.Buffers.{Buffers, buffers_of, row_at, title_at, rule_at, state_at, row_facts, here_facts, kind_at, content_at, facts_at, with_row, Within}
 use Rattle.calls.specs.Effect.{copy_cci, after_move, effect}
 use Rattle.calls.specs.Conditions.{conditions}
 use Rattle.calls.specs.Perform.{refusal, perform, AreBytes}
@@ -330,7 +330,7 @@ head_of pair (MoveIn c j h) b n = n.heads.ledger
 head_of pair (Delete j f) b n = n.heads.ledger
 
 -- is not the row that a done call writes
-not_gone : (pair : Pair) (k : Request) (b : Buffers) → Named pair k b → (d : ℕ) → state_at b d ≡ Gone → row_written k b ≢ some d
+not_gone : (pair : Pair) (k : Request) (b : Buffers) → Named pair k b → (d : ℕ) → state_at b d ≡ Gone → row_written k b ≢ Some d
 not_gone pair (Register c f) b n d gone e = let z : ◌≡◌ {A = ℕ} 0 1 = cc in omega arith
 not_gone pair (Record c j f h) b n d gone e = let z : ◌≡◌ {A = ℕ} 0 1 = cc in omega arith
 not_gone pair (CheckOut c j) b n d gone e = let z : ◌≡◌ {A = ℕ} 0 1 = cc in omega arith
@@ -340,11 +340,11 @@ not_gone pair (MoveIn c j h) b n d gone e = let z : ◌≡◌ {A = ℕ} 0 1 = cc
 not_gone pair (Delete j f) b n d gone e = by n.deletable
   where
     row : EntryKind → Option ℕ
-    row k = cond (is_full k) (some (content_at b j.0)) none
+    row k = cond (is_full k) (Some (content_at b j.0)) None
 
     by : Deletable pair j.0 f b → ⊥
-    by (deletes_copy k) = let was : row (kind_at b j.0) ≡ none = ap row k in let z : ◌≡◌ {A = ℕ} 0 1 = cc in omega arith
-    by (deletes_holder k away key) = let was : row (kind_at b j.0) ≡ some (content_at b j.0) = ap row k in let z : ◌≡◌ {A = ℕ} 0 1 = cc in omega arith
+    by (deletes_copy k) = let was : row (kind_at b j.0) ≡ None = ap row k in let z : ◌≡◌ {A = ℕ} 0 1 = cc in omega arith
+    by (deletes_holder k away key) = let was : row (kind_at b j.0) ≡ Some (content_at b j.0) = ap row k in let z : ◌≡◌ {A = ℕ} 0 1 = cc in omega arith
 
 pub gone_stays : GoneStays
 gone_stays pair k b c gone =

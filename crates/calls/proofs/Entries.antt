@@ -4,11 +4,11 @@ use Prim.Native.Nat.{ℕ}
 use mathlib.Core.Path.{◌≡◌, refl, sym, ap, ap₂, ◌∙◌}
 use mathlib.Core.Logic.{◌≢◌}
 use mathlib.Core.List.{List, [], ◌∷◌}
-use mathlib.Core.Option.{some}
 use mathlib.Core.Bool.{Bool, true, false}
 use native.Mathlib.Omega.{arith}
 use native.Mathlib.Decide.{ℕ_discrete}
 use borrow.Author.Tests.{eq-eqb, ne_eqb}
+use Rattle.std.specs.Prelude.{Some}
 use Rattle.formats.specs.Half.{id_of}
 use Rattle.formats.specs.Entry.{kind_of}
 use Rattle.formats.specs.declared.head.Pair.{Pair}
@@ -49,13 +49,13 @@ module _ (pair : Pair) (b : Buffers) (are_bytes : AreBytes b) (j : ℕ) (in_tabl
   after k = (perform pair k b).buffers
 
   -- at its own entry, or at another, which stays as it was
-  at : (k : Request) (i : ℕ) → title_written k ≡ some i → OnCard b i → (j ≡ i → Told (after k) j (puts k j put) (takes k j taken))
+  at : (k : Request) (i : ℕ) → title_written k ≡ Some i → OnCard b i → (j ≡ i → Told (after k) j (puts k j put) (takes k j taken))
       → (j ≢ i → (puts k j put ≡ put) × (takes k j taken ≡ taken)) → Told (after k) j (puts k j put) (takes k j taken)
   at k i written o here elsewhere =
       elim (ℕ_discrete j i) [
         | yes e ↦ here e
         | no ne ↦
-            let other : title_written k ≢ some j = λ e. let number : ◌≡◌ {A = ℕ} i j = cc in ne (sym number) in
+            let other : title_written k ≢ Some j = λ e. let number : ◌≡◌ {A = ℕ} i j = cc in ne (sym number) in
             let u = untouched pair k b in
             let rules = rule_with_title k b j other in
             let (same_put, same_taken) = elsewhere ne in

@@ -6,14 +6,14 @@ use mathlib.Core.List.{List}
 use mathlib.Core.Bool.{Bool, true, false, ◌&&◌, cond}
 use lib.Dec.{eqb}
 use Rattle.formats.specs.Half.{id_of, usable_of, names_spent}
-use Rattle.formats.specs.Entry.{kind_by, kind_of}
+use Rattle.formats.specs.Entry.{kind_by, kind_of, is_copy, is_full}
 use Rattle.formats.specs.declared.head.Pair.{Pair}
 use Rattle.formats.specs.declared.entry.EntryKind.{EntryKind}
 use Rattle.formats.specs.declared.entry.EntryKind.TheVariants.{Free, Copy, Full, Torn, Spent}
 use Rattle.requests.specs.declared.request.Request.{Request}
 use Rattle.requests.specs.declared.request.Request.TheVariants.{Register, Record, CheckOut, CheckIn, MoveOut, MoveIn, Delete}
 use Rattle.formats.proofs.entry.Laws.{vacant_lem}
-use Rattle.calls.specs.Buffers.{Buffers, title_at, rule_at, is_copy, is_full, one, copies, copy_of, full_with}
+use Rattle.calls.specs.Buffers.{Buffers, title_at, rule_at, one, copies, copy_of, full_with}
 use Rattle.calls.specs.Refusal.{Condition, first}
 use Rattle.calls.specs.Conditions.{conditions}
 use Rattle.calls.specs.Effect.{effect}

@@ -4,6 +4,7 @@ use Prim.Native.Nat.{ℕ, ◌*◌}
 use mathlib.Core.List.{List}
 use mathlib.Core.Bool.{Bool, true, false, cond}
 use lib.Dec.{lit<}
+use Rattle.formats.specs.Entry.{is_full}
 use Rattle.formats.specs.declared.head.Pair.{Pair}
 use Rattle.formats.specs.Bytes.{Bytes}
 use Rattle.formats.specs.Part.{put}
@@ -20,7 +21,7 @@ use Rattle.formats.proofs.title.Laws.{title_bytes}
 use Rattle.formats.proofs.rule.Laws.{rule_bytes, wiped_rule_bytes}
 use Rattle.formats.proofs.row.Laws.{here_bytes, plain_bytes, permits_bytes}
 use Rattle.calls.specs.Count.{one_less, one_more}
-use Rattle.calls.specs.Buffers.{Buffers, row_at, title_at, rule_at, row_facts, kind_at, content_at, facts_at, is_full, with_row}
+use Rattle.calls.specs.Buffers.{Buffers, row_at, title_at, rule_at, row_facts, kind_at, content_at, facts_at, with_row}
 use Rattle.calls.specs.Effect.{after_move, write_entry, effect}
 use Rattle.calls.specs.Perform.{perform, AreBytes, InBounds, Demand1Calls}
 use Rattle.calls.proofs.Refusals.{either_way, call_refused_first}

@@ -9,7 +9,7 @@ use native.Mathlib.Omega.{arith}
 use lib.Dec.{eqb}
 use borrow.Author.Tests.{ne_eqb}
 use Rattle.formats.specs.Facts.{numbered, facts_pass, cci_passes, trigger_passes, count_passes, key_passes, in_range, fact_values}
-use Rattle.formats.specs.Refusal.{unless}
+use Rattle.formats.specs.Refusal.{refused_unless}
 use Rattle.formats.specs.declared.head.Pair.{Pair}
 use Rattle.requests.specs.Request.{kind_of as call_of, fact_arguments, schema, first_limit, limit_of}
 use Rattle.formats.specs.declared.facts.Facts.{Facts}
@@ -22,7 +22,7 @@ use Rattle.calls.specs.Perform.{perform}
 use Rattle.calls.proofs.Refusals.{refusing, past, to_none, answer_first}
 
 -- one test
-pub one_limit : (x : Bool) (n : ℕ) {rest limits : ℕ} → n ≢ 0 → rest ≡ limits → cond (not x) n rest ≡ cond (eqb (unless x n) 0) limits (unless x n)
+pub one_limit : (x : Bool) (n : ℕ) {rest limits : ℕ} → n ≢ 0 → rest ≡ limits → cond (not x) n rest ≡ cond (eqb (refused_unless x n) 0) limits (refused_unless x n)
 one_limit true n other e = e
 one_limit false n {limits = limits} other e = sym (ap (λ (x : Bool). cond x limits n) (ne_eqb n 0 other))
 
@@ -33,12 +33,12 @@ six_limits f = by (cci_passes f.cci) (trigger_passes f.trigger) (count_passes f.
   where
     by : (a b c d e g : Bool)
         → cond (not ((a && (b && (c && d))) && (e && g))) 6 0
-        ≡ cond (eqb (unless a 6) 0)
-        (cond (eqb (unless b 6) 0)
-        (cond (eqb (unless c 6) 0)
-        (cond (eqb (unless d 6) 0) (cond (eqb (unless e 6) 0) (cond (eqb (unless g 6) 0) 0 (unless g 6)) (unless e 6)) (unless d 6)) (unless c 6))
-        (unless b 6))
-        (unless a 6)
+        ≡ cond (eqb (refused_unless a 6) 0)
+        (cond (eqb (refused_unless b 6) 0)
+        (cond (eqb (refused_unless c 6) 0)
+        (cond (eqb (refused_unless d 6) 0) (cond (eqb (refused_unless e 6) 0) (cond (eqb (refused_unless g 6) 0) 0 (refused_unless g 6)) (refused_unless e 6)) (refused_unless d 6)) (refused_unless c 6))
+        (refused_unless b 6))
+        (refused_unless a 6)
     by false b c d e g = refl
     by true false c d e g = refl
     by true true false d e g = refl

@@ -19,7 +19,7 @@ use Rattle.formats.proofs.Tests.{split, both}
 use Rattle.requests.specs.Request.{kind_passes, kind_limit, request_of}
 use Rattle.requests.specs.Values.{filled, request_in}
 use Rattle.requests.specs.declared.request.Request.{Request}
-use Rattle.formats.specs.Refusal.{unless as limit}
+use Rattle.formats.specs.Refusal.{refused_unless as limit}
 use Rattle.requests.proofs.request.Laws.{made}
 use Rattle.calls.specs.Buffers.{Buffers, Within}
 use Rattle.calls.specs.Refusal.{first, ◌unless◌, RefusedFirst}

@@ -10,7 +10,7 @@ use native.Mathlib.Decide.{ℕ_discrete}
 use lib.Dec.{eqb, leb}
 use borrow.Author.Tests.{eq-eqb, ne_eqb, eqb-false, leb-true, not-true}
 use Rattle.formats.specs.declared.head.Pair.{Pair}
-use Rattle.formats.specs.Refusal.{unless as answer}
+use Rattle.formats.specs.Refusal.{refused_unless as answer}
 use Rattle.requests.specs.declared.request.Request.{Request}
 use Rattle.requests.specs.declared.request.Request.TheVariants.{Register, Record, CheckOut, CheckIn, MoveOut, MoveIn, Delete}
 use Rattle.formats.proofs.Tests.{split, both, one_holds, refuted}

@@ -9,12 +9,13 @@ use native.Mathlib.Omega.{arith}
 use native.Mathlib.Decide.{ℕ_discrete}
 use lib.Dec.{eqb}
 use borrow.Author.Tests.{eq-eqb, ne_eqb, eqb-true}
+use Rattle.formats.specs.Entry.{is_copy}
 use Rattle.formats.proofs.Tests.{split, both}
 use Rattle.formats.specs.declared.head.Pair.{Pair}
 use Rattle.formats.specs.declared.facts.ContentId.{ContentId}
 use Rattle.formats.specs.declared.facts.EntryNumber.{EntryNumber}
 use Rattle.requests.specs.declared.request.Request.TheVariants.{MoveIn}
-use Rattle.calls.specs.Buffers.{Buffers, title_at, rule_at, kind_at, content_at, is_copy, copy_of, first_of, copies, first_copy, entries_searched}
+use Rattle.calls.specs.Buffers.{Buffers, title_at, rule_at, kind_at, content_at, copy_of, first_of, copies, first_copy, entries_searched}
 use Rattle.calls.specs.Refusal.{Condition, ◌unless◌, first, tested_before}
 use Rattle.calls.specs.Conditions.{conditions}
 use Rattle.calls.specs.Perform.{refusal, perform}

@@ -5,9 +5,9 @@ use Prim.Native.Nat.{ℕ, ◌≤◌}
 use mathlib.Core.Path.{◌≡◌, refl, sym, ap, ap₂, ◌∙◌}
 use mathlib.Core.Logic.{◌≢◌, ◌⊎◌, inl, inr, ⊎_elim}
 use mathlib.Core.List.{List, [], ◌∷◌}
-use mathlib.Core.Option.{some}
 use native.Mathlib.Omega.{arith}
 use native.Mathlib.Decide.{ℕ_discrete}
+use Rattle.std.specs.Prelude.{Some}
 use Rattle.formats.specs.declared.head.Pair.{Pair}
 use Rattle.formats.specs.Entry.{kind_of, entry_facts}
 use Rattle.formats.specs.Row.{here_row}
@@ -101,7 +101,7 @@ no_copy_at b i =
     ⊎_elim (λ free copy. let z : ◌≡◌ {A = ℕ} 0 1 = cc in omega arith) (λ spent copy. let z : ◌≡◌ {A = ℕ} 0 1 = cc in omega arith)
 
 -- the tables stay right, and entries other than 7 vacant, where entry 7 is written
-open_after : (pair : Pair) (k : Request) (b : Buffers) → title_written k ≡ some 7 → Open pair b → Open pair (perform pair k b).buffers
+open_after : (pair : Pair) (k : Request) (b : Buffers) → title_written k ≡ Some 7 → Open pair b → Open pair (perform pair k b).buffers
 open_after pair k b written o =
     record { bytes = (in_bounds pair k b).stay_bytes o.bytes; heads = heads_kept pair k b o.heads; vacant = λ i l ne. rw (same i l ne) (o.vacant i l ne) }
   where
@@ -109,7 +109,7 @@ open_after pair k b written o =
     same i l ne =
         let c = found b i l o.heads in
         let u = untouched pair k b in
-        let other : title_written k ≢ some i = λ e. let number : ◌≡◌ {A = ℕ} 7 i = cc in ne (sym number) in
+        let other : title_written k ≢ Some i = λ e. let number : ◌≡◌ {A = ℕ} 7 i = cc in ne (sym number) in
         kind_else b (perform pair k b).buffers u.titles u.rules c.titles_long c.rules_long i l other (rule_with_title k b i other)
 
 -- title 1 with other permits

@@ -4,10 +4,10 @@ use Prim.Native.Nat.{ℕ, zero, suc, ◌+◌, ◌*◌, ◌≤◌, ◌<◌}
 use mathlib.Core.Path.{◌≡◌, refl, sym, ap}
 use mathlib.Core.Logic.{◌≢◌}
 use mathlib.Core.List.{List}
-use mathlib.Core.Option.{Option, some}
 use native.Mathlib.Omega.{arith}
 use native.Mathlib.Decide.{dec_lt}
 use lib.ListN.{length}
+use Rattle.std.specs.Prelude.{Option, Some}
 use Rattle.formats.specs.Part.{part, put}
 use Rattle.formats.proofs.Part.{put_length, part_put_same, part_put_before, part_put_after}
 use Rattle.calls.specs.Untouched.{SlotsKept}
@@ -34,12 +34,12 @@ module _ (width : ℕ) (l p : List ℕ) (j : ℕ) (within : width * j + width �
       ]
 
   -- all but that one, and the head, are as they were
-  pub slots_kept : 1 ≤ j → SlotsKept width (some j) l (put l (width * j) p)
+  pub slots_kept : 1 ≤ j → SlotsKept width (Some j) l (put l (width * j) p)
   slots_kept behind =
       record {
         same_length = put_length l p (width * j) (omega arith);
         head = let e = slot_ends width 0 j (omega arith) in part_put_before l p (width * j) (omega arith) 0 width (omega arith);
-        others = λ i inside other. slot_else i inside (λ e. other (ap some (sym e)));
+        others = λ i inside other. slot_else i inside (λ e. other (ap Some (sym e)));
       }
 
 -- where nothing is written

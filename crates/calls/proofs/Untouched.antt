@@ -4,10 +4,11 @@ use Prim.Native.Nat.{ℕ, ◌*◌}
 use mathlib.Core.Path.{◌≡◌, refl, ap, ◌∙◌}
 use mathlib.Core.Logic.{◌≢◌}
 use mathlib.Core.List.{List}
-use mathlib.Core.Option.{none, some}
 use mathlib.Core.Bool.{Bool, true, false, cond}
 use native.Mathlib.Omega.{arith}
 use lib.ListN.{length}
+use Rattle.std.specs.Prelude.{None, Some}
+use Rattle.formats.specs.Entry.{is_full}
 use Rattle.formats.specs.declared.head.Pair.{Pair}
 use Rattle.formats.specs.Part.{put}
 use Rattle.formats.specs.Half.{wiped}
@@ -23,7 +24,7 @@ use Rattle.formats.proofs.title.Laws.{length_title_half}
 use Rattle.formats.proofs.rule.Laws.{length_rule_half, wiped_rule_length}
 use Rattle.formats.proofs.row.Laws.{here_length, plain_length, permits_length}
 use Rattle.calls.specs.Count.{one_less, one_more}
-use Rattle.calls.specs.Buffers.{Buffers, row_at, title_at, rule_at, row_facts, kind_at, content_at, facts_at, is_full}
+use Rattle.calls.specs.Buffers.{Buffers, row_at, title_at, rule_at, row_facts, kind_at, content_at, facts_at}
 use Rattle.calls.specs.Effect.{after_move, effect}
 use Rattle.calls.specs.Perform.{perform}
 use Rattle.calls.specs.Untouched.{title_written, rule_written, SlotsKept, Untouched}
@@ -54,19 +55,19 @@ module _ (b : Buffers) where
 -- THE EFFECTS
 
 module _ (pair : Pair) (b : Buffers) where
-  row_kept : (c : ℕ) (row : List ℕ) → IsRow b.ledger c → length row ≡ 24 → SlotsKept 24 (some c) b.ledger (put b.ledger (24 * c) row)
+  row_kept : (c : ℕ) (row : List ℕ) → IsRow b.ledger c → length row ≡ 24 → SlotsKept 24 (Some c) b.ledger (put b.ledger (24 * c) row)
   row_kept c row is size = slots_kept 24 b.ledger row c (row_inside b.ledger c is) size is.from
 
-  title_kept : (j : ℕ) (t : List ℕ) → OnCard b j → length t ≡ 16 → SlotsKept 16 (some j) b.titles (put b.titles (16 * j) t)
+  title_kept : (j : ℕ) (t : List ℕ) → OnCard b j → length t ≡ 16 → SlotsKept 16 (Some j) b.titles (put b.titles (16 * j) t)
   title_kept j t o size = entries_kept 16 b.titles o.titles_long t size j o.entry
 
-  rule_kept : (j : ℕ) (r : List ℕ) → OnCard b j → length r ≡ 32 → SlotsKept 32 (some j) b.rules (put b.rules (32 * j) r)
+  rule_kept : (j : ℕ) (r : List ℕ) → OnCard b j → length r ≡ 32 → SlotsKept 32 (Some j) b.rules (put b.rules (32 * j) r)
   rule_kept j r o size = entries_kept 32 b.rules o.rules_long r size j o.entry
 
   effect_keeps : (k : Request) → Named pair k b → Untouched k b (effect k b)
   unfolding effect
   effect_keeps (Register c f) n =
-      record { rows = row_kept c.0 _ (its_row pair (Register c f) b n) (here_length f); titles = all_kept 16 none b.titles; rules = all_kept 32 none b.rules }
+      record { rows = row_kept c.0 _ (its_row pair (Register c f) b n) (here_length f); titles = all_kept 16 None b.titles; rules = all_kept 32 None b.rules }
   effect_keeps (Record c j f h) n =
       let o = on_card pair (Record c j f h) b n in
       record {
@@ -80,7 +81,7 @@ module _ (pair : Pair) (b : Buffers) where
       record {
         rows = row_kept c.0 _ is (permits_long b c.0 (one_less f.permits) is);
         titles = title_kept j.0 _ (on_card pair (CheckOut c j) b n) (length_title_half _ f.title_key c.0);
-        rules = all_kept 32 none b.rules;
+        rules = all_kept 32 None b.rules;
       }
   effect_keeps (CheckIn j f1) n =
       let c = content_at b j.0 in
@@ -89,7 +90,7 @@ module _ (pair : Pair) (b : Buffers) where
       record {
         rows = row_kept c _ is (permits_long b c (one_more (row_facts b c).permits) is);
         titles = title_kept j.0 _ o (wiped_title_long b j.0 o f1);
-        rules = all_kept 32 none b.rules;
+        rules = all_kept 32 None b.rules;
       }
   effect_keeps (MoveOut j h f) n =
       let o = on_card pair (MoveOut j h f) b n in
@@ -111,7 +112,7 @@ module _ (pair : Pair) (b : Buffers) where
       let c = content_at b j.0 in
       let title = title_kept j.0 _ o (wiped_title_long b j.0 o f.f1) in
       elim n.deletable [
-        | deletes_copy k ↦ record { rows = rw (ap is_full k) (all_kept 24 none b.ledger); titles = rw (ap is_full k) title; rules = rw (ap is_full k) (all_kept 32 none b.rules) }
+        | deletes_copy k ↦ record { rows = rw (ap is_full k) (all_kept 24 None b.ledger); titles = rw (ap is_full k) title; rules = rw (ap is_full k) (all_kept 32 None b.rules) }
         | deletes_holder k away key ↦
             record {
               rows = rw (ap is_full k) (row_kept c _ (row_in b c Away refl n.heads.ledger away) (plain_length _));
@@ -147,7 +148,7 @@ pub heads_kept : (pair : Pair) (k : Request) (b : Buffers) → HeadsPass pair b 
 heads_kept pair k b p = heads_pass (each_head_kept pair k b (heads_of p))
 
 -- a call that leaves an entry's title half alone leaves its rule half alone
-pub rule_with_title : (k : Request) (b : Buffers) (i : ℕ) → title_written k ≢ some i → rule_written k b ≢ some i
+pub rule_with_title : (k : Request) (b : Buffers) (i : ℕ) → title_written k ≢ Some i → rule_written k b ≢ Some i
 rule_with_title (Register c f) b i other = other
 rule_with_title (Record c j f h) b i other = other
 rule_with_title (CheckOut c j) b i other = λ e. let z : ◌≡◌ {A = ℕ} 0 1 = cc in omega arith
@@ -156,6 +157,6 @@ rule_with_title (MoveOut j h f) b i other = other
 rule_with_title (MoveIn c j h) b i other = other
 rule_with_title (Delete j f) b i other = by (is_full (kind_at b j.0))
   where
-    by : (x : Bool) → cond x (some j.0) none ≢ some i
+    by : (x : Bool) → cond x (Some j.0) None ≢ Some i
     by true = other
     by false = λ e. let z : ◌≡◌ {A = ℕ} 0 1 = cc in omega arith

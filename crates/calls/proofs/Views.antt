@@ -4,15 +4,15 @@ use Prim.Native.Nat.{ℕ, ◌+◌, ◌*◌, ◌≤◌}
 use mathlib.Core.Path.{◌≡◌, refl, sym, ap, ap₂, ◌∙◌}
 use mathlib.Core.Logic.{◌≢◌, ⊎_elim}
 use mathlib.Core.List.{List}
-use mathlib.Core.Option.{Option, some}
 use mathlib.Core.Bool.{Bool, true, false, cond, ◌&&◌}
 use native.Mathlib.Omega.{arith}
 use lib.ListN.{length}
 use lib.Dec.{leb, eqb}
 use borrow.Author.Tests.{le-leb, leb-true}
+use Rattle.std.specs.Prelude.{Option, Some}
 use Rattle.formats.specs.Part.{part, put}
 use Rattle.formats.specs.Half.{id_of}
-use Rattle.formats.specs.Entry.{kind_of, entry_facts}
+use Rattle.formats.specs.Entry.{kind_of, entry_facts, is_copy, is_full}
 use Rattle.formats.specs.Head.{LedgerHead, rows_of}
 use Rattle.formats.specs.Row.{state_of}
 use Rattle.formats.specs.declared.facts.Facts.{Facts}
@@ -22,7 +22,7 @@ use Rattle.formats.specs.declared.row.RowState.TheVariants.{NoState}
 use Rattle.formats.proofs.Part.{part_length}
 use Rattle.formats.proofs.Tests.{split, both}
 use Rattle.formats.proofs.head.Laws.{rows_kept}
-use Rattle.calls.specs.Buffers.{kind_at, content_at, facts_at, cci_at, is_copy, is_full, one, copies, full_entries, Buffers, row_at, title_at, rule_at, state_in, state_at, Within}
+use Rattle.calls.specs.Buffers.{kind_at, content_at, facts_at, cci_at, one, copies, full_entries, Buffers, row_at, title_at, rule_at, state_in, state_at, Within}
 use Rattle.calls.specs.Needs.{Vacant}
 use Rattle.calls.specs.Untouched.{SlotsKept}
 use Rattle.calls.proofs.Slots.{slot_ends, slot_same, slots_kept}
@@ -73,7 +73,7 @@ module _ {old new : List ℕ} {written : Option ℕ} (kept : SlotsKept 24 writte
   row_reads {c} is = state_of_row new c is.from (omega (arith, is.to, same_rows))
 
   -- and any other row as it did
-  pub row_else : LedgerHead old → (d : ℕ) → written ≢ some d → state_in new d ≡ state_in old d
+  pub row_else : LedgerHead old → (d : ℕ) → written ≢ Some d → state_in new d ≡ state_in old d
   unfolding state_in
   row_else head d other = by (leb 1 d && leb d (rows_of old)) refl
     where
@@ -167,13 +167,13 @@ module _ (width : ℕ) (table : List ℕ) (long : length table ≡ width * 1000)
   entry_same p size j in_table = slot_same width table p j (entry_inside j in_table) size
 
   -- and that all others are as they were
-  pub entries_kept : (p : List ℕ) → length p ≡ width → (j : ℕ) → Within 999 j → SlotsKept width (some j) table (put table (width * j) p)
+  pub entries_kept : (p : List ℕ) → length p ≡ width → (j : ℕ) → Within 999 j → SlotsKept width (Some j) table (put table (width * j) p)
   entries_kept p size j in_table = slots_kept width table p j (entry_inside j in_table) size in_table.from
 
 -- a card of which one entry at most was written: any other has the halves that it had
 module _ (b after : Buffers) {title rule : Option ℕ} (titles : SlotsKept 16 title b.titles after.titles) (rules : SlotsKept 32 rule b.rules after.rules)
-    (titles_long : length b.titles ≡ 16000) (rules_long : length b.rules ≡ 32000) (i : ℕ) (in_table : Within 999 i) (other_title : title ≢ some i)
-    (other-rule : rule ≢ some i) where
+    (titles_long : length b.titles ≡ 16000) (rules_long : length b.rules ≡ 32000) (i : ℕ) (in_table : Within 999 i) (other_title : title ≢ Some i)
+    (other-rule : rule ≢ Some i) where
   pub same_title : title_at after.titles i ≡ title_at b.titles i
   same_title = titles.others i (entry_inside 16 b.titles titles_long i in_table) other_title
 

@@ -4,13 +4,12 @@ use Rattle.formats.specs.Part.{part, put}
 use Rattle.formats.specs.Half.{key_of, id_of}
 use Rattle.formats.specs.Title.{cci_of}
 use Rattle.formats.specs.Rule.{hash_of}
-use Rattle.formats.specs.Entry.{kind_of, entry_facts}
+use Rattle.formats.specs.Entry.{kind_of, is_copy, is_full, entry_facts}
 use Rattle.formats.specs.Head.{rows_of, fresh_ledger, fresh_titles, fresh_rules}
 use Rattle.formats.specs.Row.{state_of}
 use Rattle.formats.specs.declared.head.Pair.{Pair}
 use Rattle.formats.specs.declared.facts.Facts.{Facts}
 use Rattle.formats.specs.declared.entry.EntryKind.{EntryKind}
-use Rattle.formats.specs.declared.entry.EntryKind.TheVariants.{Free, Copy, Full, Torn, Spent}
 use Rattle.formats.specs.declared.row.RowState.{RowState}
 use Rattle.formats.specs.declared.row.RowState.TheVariants.{Empty, Here, Away, Gone, NoState}
 
@@ -20,7 +19,7 @@ pub record Buffers : Type 0 where
   pub titles : List ℕ
   pub rules : List ℕ
 
--- what stands in the three that a call is lent, at its entry or at its exit
+-- what stands in the three that a call is lent, before it or after it
 abbrev pub buffers_of : List ℕ → List ℕ → List ℕ → Buffers
 buffers_of ledger titles rules = record { ledger = ledger; titles = titles; rules = rules }
 
@@ -80,21 +79,7 @@ sti_key_at b j = key_of (rule_at b.rules j)
 abbrev pub hash_at : Buffers → ℕ → ℕ
 hash_at b j = hash_of (rule_at b.rules j)
 
--- the kinds and states that calls need, beside `is_vacant`
-abbrev pub is_copy : EntryKind → Bool
-is_copy Free = false
-is_copy Copy = true
-is_copy Full = false
-is_copy Torn = false
-is_copy Spent = false
-
-abbrev pub is_full : EntryKind → Bool
-is_full Free = false
-is_full Copy = false
-is_full Full = true
-is_full Torn = false
-is_full Spent = false
-
+-- the states that calls need
 abbrev pub is_empty : RowState → Bool
 is_empty Empty = true
 is_empty (Here f) = false
@@ -156,7 +141,7 @@ full_entries c titles rules = total 999 (λ j. one (full_with c (title_at titles
 unfoldable pub first_copy : ℕ → List ℕ → List ℕ → ℕ
 first_copy c titles rules = first_of 999 (λ j. copy_of c (title_at titles j) (rule_at rules j))
 
--- how many of n entries a search reads that stops at the first of some kind: the number of that entry "if there is one", else n
+-- how many of n entries a search reads that stops at the first one that it looks for: the number of that entry "if there is one", else n
 abbrev pub read_up_to : ℕ → ℕ → ℕ
 read_up_to n first = cond (eqb first 0) n first
 

@@ -2,7 +2,7 @@
 use Rattle.std.specs.Prelude.{ℕ, ◌%◌, ◌^◌, List, [], ◌∷◌, ◌++◌, Bool, true, false, not, ◌&&◌, ◌||◌, eqb}
 use Rattle.formats.specs.Facts.{facts_pass}
 use Rattle.formats.specs.Half.{key_of}
-use Rattle.formats.specs.Entry.{is_vacant}
+use Rattle.formats.specs.Entry.{is_vacant, is_copy, is_full}
 use Rattle.formats.specs.Rule.{hash_of}
 use Rattle.formats.specs.Head.{ledger_passes, ledger_application, titles_pass, rules_pass, rules_application}
 use Rattle.formats.specs.declared.head.Pair.{Pair}
@@ -12,7 +12,7 @@ use Rattle.requests.specs.declared.request.Argument.{Argument}
 use Rattle.requests.specs.declared.request.Argument.TheVariants.{Content, Entry}
 use Rattle.requests.specs.declared.request.Request.{Request}
 use Rattle.requests.specs.declared.request.Request.TheVariants.{Register, Record, CheckOut, CheckIn, MoveOut, MoveIn, Delete}
-use Rattle.calls.specs.Buffers.{Buffers, title_at, rule_at, state_at, row_facts, kind_at, content_at, facts_at, is_copy, is_full, is_empty, is_here, is_away, copies}
+use Rattle.calls.specs.Buffers.{Buffers, title_at, rule_at, state_at, row_facts, kind_at, content_at, facts_at, is_empty, is_here, is_away, copies}
 use Rattle.calls.specs.Refusal.{Condition, ◌when◌, ◌unless◌}
 
 -- an argument past its limit: 4 of c, 5 of j

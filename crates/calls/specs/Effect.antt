@@ -1,5 +1,6 @@
 -- What each call changes when it is done.
 use Rattle.std.specs.Prelude.{ℕ, cond, eqb}
+use Rattle.formats.specs.Entry.{is_full}
 use Rattle.formats.specs.Half.{wiped}
 use Rattle.formats.specs.Title.{title_half}
 use Rattle.formats.specs.Rule.{rule_half, wiped_rule}
@@ -9,7 +10,7 @@ use Rattle.formats.specs.declared.facts.Fillers.{Fillers}
 use Rattle.requests.specs.declared.request.Request.{Request}
 use Rattle.requests.specs.declared.request.Request.TheVariants.{Register, Record, CheckOut, CheckIn, MoveOut, MoveIn, Delete}
 use Rattle.calls.specs.Count.{one_less, one_more}
-use Rattle.calls.specs.Buffers.{Buffers, row_at, title_at, rule_at, row_facts, kind_at, content_at, facts_at, is_full, with_row, with_title, with_rule}
+use Rattle.calls.specs.Buffers.{Buffers, row_at, title_at, rule_at, row_facts, kind_at, content_at, facts_at, with_row, with_title, with_rule}
 
 -- "rights less 1, or 15 unchanged": the facts after a move
 abbrev pub after_move : Facts → Facts

@@ -24,7 +24,7 @@ unfoldable pub taken_from : ℕ → Log → Bool
 taken_from j [] = false
 taken_from j (a ∷ log) = cond (done a) (takes a.call j (taken_from j log)) (taken_from j log)
 
--- an entry is free where nothing was put, spent where that was taken from it, and else the copy or the holder that it was made
+-- an entry is free where nothing was put, spent where what was put there was taken away, and else a copy or full, as it was put there
 abbrev pub kind_told : LastPut → Bool → EntryKind
 kind_told nothing taken = Free
 kind_told (a_copy c) true = Spent

@@ -1,17 +1,17 @@
 -- "Calls that needed a free entry accept free or spent, so no earlier answer changes.": the calls as they were with four kinds of entry,
--- and that each is what it was.
+-- and that each answers, and picks what it carries out, as it did. What it then writes is said in `Work`.
 use Rattle.std.specs.Prelude.{ℕ, ◌≡◌, List, [], ◌∷◌, ◌++◌, Bool, true, false, not, ◌&&◌, ◌||◌, cond, eqb}
 use Rattle.formats.specs.Half.{id_of, usable_of}
 use Rattle.formats.specs.Title.{cci_of}
 use Rattle.formats.specs.Rule.{hash_of}
 use Rattle.formats.specs.Row.{plain_row}
-use Rattle.formats.specs.Entry.{stray_of, kind_of}
+use Rattle.formats.specs.Entry.{stray_of, kind_of, is_copy, is_full}
 use Rattle.formats.specs.declared.head.Pair.{Pair}
 use Rattle.formats.specs.declared.entry.EntryKind.{EntryKind}
 use Rattle.formats.specs.declared.entry.EntryKind.TheVariants.{Free, Copy, Full, Torn, Spent}
 use Rattle.requests.specs.declared.request.Request.{Request}
 use Rattle.requests.specs.declared.request.Request.TheVariants.{Register, Record, CheckOut, CheckIn, MoveOut, MoveIn, Delete}
-use Rattle.calls.specs.Buffers.{Buffers, title_at, rule_at, state_at, row_facts, content_at, facts_at, is_copy, is_full, is_empty, is_here, is_away, one, total, copy_of, full_with, with_row}
+use Rattle.calls.specs.Buffers.{Buffers, title_at, rule_at, state_at, row_facts, content_at, facts_at, is_empty, is_here, is_away, one, total, copy_of, full_with, with_row}
 use Rattle.calls.specs.Refusal.{Condition, ◌when◌, ◌unless◌, first}
 use Rattle.calls.specs.Conditions.{argument_conditions, head_conditions, may_not_move, leaves_key, looks_at_f2}
 use Rattle.calls.specs.Effect.{wipe_title, wipe_entry, effect}
@@ -57,7 +57,7 @@ full_then c t r = is_full (four_kinds t r) && eqb (id_of t) c
 unfoldable pub copies_then : ℕ → Buffers → ℕ
 copies_then c b = total 999 (λ j. one (copy_then c (title_at b.titles j) (rule_at b.rules j)))
 
--- THE CALLS, as they were: conditions 10 to 16 written out, from document 01, since a W7 that changed another one is to be seen here
+-- THE CALLS, as they were: conditions 10 to 16 from document 01 and W1, written out, so that a change of any of them would show here
 abbrev pub state_conditions_then : Pair → Request → Buffers → List Condition
 state_conditions_then pair (Register c f) b =
     11 unless is_empty (state_at b c.0)
@@ -117,7 +117,7 @@ perform_then pair k b =
       buffers = cond (eqb (first (conditions_then pair k b)) 0) (effect_then k b) b;
     }
 
--- "no earlier answer changes", and no byte that a call leaves. All else goes by which entries are copies of c, or full ones with ID c: the
+-- "no earlier answer changes", nor does a delete take another entry for full. All else goes by which entries are copies of c, or full ones with ID c: the
 -- tally, what a move in reports, the lines and sums of the sheet; and these are the same entries
 pub record AsWithFourKinds : Type 0 where
   pub calls : (pair : Pair) (k : Request) (b : Buffers) → perform pair k b ≡ perform_then pair k b

@@ -1,7 +1,6 @@
 -- Demand 3: what holds after every list of the seven calls that starts from a freshly formatted ledger and card. Counts come
 -- from the calls and their answers alone, holders and copies from the bytes after the list alone.
-use Rattle.std.specs.Prelude.{ℕ, ◌+◌, ◌≤◌, ◌≡◌, ◌≢◌, List, [], ◌∷◌, ◌++◌, map, Bool, ◌&&◌, cond, eqb}
-use Rattle.std.proofs.Math.Option.{Option, none, some}
+use Rattle.std.specs.Prelude.{ℕ, ◌+◌, ◌≤◌, ◌≡◌, ◌≢◌, List, [], ◌∷◌, ◌++◌, map, Bool, ◌&&◌, cond, eqb, Option, None, Some}
 use Rattle.formats.specs.declared.head.Pair.{Pair}
 use Rattle.formats.specs.declared.facts.Facts.{Facts}
 use Rattle.requests.specs.declared.request.Request.{Request}
@@ -145,7 +144,7 @@ times d (e ∷ acts) = one (eqb (number d) (number e)) + times d acts
 
 -- "g, m and the granted keys are in that call's facts"
 abbrev pub granted_by : Action → Option Facts → Option Facts
-granted_by (granted f) before = some f
+granted_by (granted f) before = Some f
 granted_by checked_out before = before
 granted_by checked_in before = before
 granted_by moved before = before
@@ -153,7 +152,7 @@ granted_by copy_deleted before = before
 granted_by holder_deleted before = before
 
 unfoldable pub grant : List Action → Option Facts
-grant [] = none
+grant [] = None
 grant (d ∷ acts) = granted_by d (grant acts)
 
 -- HOLDERS, from the bytes (copies: `copies`)
@@ -204,7 +203,7 @@ pub record TitleClaim (c : ℕ) (f : Facts) (acts : List Action) (b : Buffers) :
 
 -- of every title granted in a run
 abbrev pub After : Run → Type 0
-After w = (c : ℕ) (f : Facts) → grant (actions c w.log) ≡ some f → TitleClaim c f (actions c w.log) w.buffers
+After w = (c : ℕ) (f : Facts) → grant (actions c w.log) ≡ Some f → TitleClaim c f (actions c w.log) w.buffers
 
 -- DEMAND 3: after every list of calls from any fresh ledger and card. "What holds for a title's history holds for a picture's": the
 -- tables are of either pair
@@ -212,3 +211,10 @@ abbrev pub History : Type 0
 History =
     (pair : Pair) (rows application card_application : ℕ) → 1 ≤ rows → rows ≤ 999 → (ks : List Request)
     → After (run pair ks (start pair rows application card_application))
+
+-- and a title that was not granted in the list has neither holder nor copy: what stands in ledger and card was granted
+abbrev pub NoOthers : Type 0
+NoOthers =
+    (pair : Pair) (rows application card_application : ℕ) → 1 ≤ rows → rows ≤ 999 → (ks : List Request) (c : ℕ)
+    → grant (actions c (run pair ks (start pair rows application card_application)).log) ≡ None
+    → NoHolder c (run pair ks (start pair rows application card_application)).buffers

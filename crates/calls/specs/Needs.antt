@@ -63,11 +63,11 @@ pub record MayMove (f : Facts) : Type 0 where
   pub not_triggered : f.trigger ≢ 1
   pub right_left : f.rights ≢ 0
 
--- the filler leaves nothing of the title key of entry j: "f1 mod 2^56 is the wiped title key", and it is not
+-- f1 does not write the title key of entry j again: "f1 mod 2^56 is the wiped title key", and here it is not
 abbrev pub WipesTitleKey : Buffers → ℕ → ℕ → Type 0
 WipesTitleKey b j f1 = f1 % 2 ^ 56 ≢ title_key_at b j
 
--- nor of its STI key: "f2 mod 2^56 the STI key"
+-- nor f2 its STI key: "f2 mod 2^56 the STI key"
 abbrev pub WipesStiKey : Buffers → ℕ → ℕ → Type 0
 WipesStiKey b j f2 = f2 % 2 ^ 56 ≢ sti_key_at b j
 

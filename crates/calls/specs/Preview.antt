@@ -15,8 +15,8 @@ use Rattle.calls.specs.Perform.{Performed, perform, checked, AreBytes, SameLengt
 
 -- A BASKET PERFORMED
 
--- what is given as a request: it is carried out, or has a kind that is none, "3 kind not 1 to 7", and "a refusal changes no byte of any
--- buffer"
+-- what is given as a request: a request is carried out; a kind that is none is answered "3 kind not 1 to 7", and "a refusal changes no
+-- byte of any buffer"
 abbrev pub perform_given : Pair → Option Request → Buffers → Performed
 perform_given pair None b = record { answer = 3; buffers = b }
 perform_given pair (Some k) b = perform pair k b
@@ -64,7 +64,8 @@ pub record Previewed : Type 0 where
 abbrev pub done_preview : AllPerformed → Previewed
 done_preview p = record { answer = 0; answers = filled 16 p.answers; scratch = p.buffers }
 
--- lent these scratch buffers and places. "The originals remain unchanged": it leaves no others
+-- of a preview that is lent these scratch buffers and places: what it leaves in them. "The originals remain unchanged": it is lent them
+-- to read
 unfoldable pub preview : Pair → List (Option Request) → ℕ → Buffers → Buffers → List ℕ → Previewed
 preview pair basket count b scratch places =
     cond (eqb (preview_refusal count b scratch) 0)

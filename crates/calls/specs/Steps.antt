@@ -48,7 +48,8 @@ calls_of (commits None ∷ steps) = calls_of steps
 calls_of (commits (Some k) ∷ steps) = k ∷ calls_of steps
 calls_of (previews other basket count scratch places ∷ steps) = calls_of steps
 
--- "A preview is no call in a title's history.": the calls' answers, the ledger and the card are those without the previews
+-- "A preview is no call in a title's history.": the calls' answers, the ledger and the card are those without the previews. That a preview
+-- writes no original, as `step` has it, holds of the code since `counter_preview` is lent them only to read
 abbrev pub NoCallInHistory : Type 0
 NoCallInHistory = (pair : Pair) (steps : List Step) (s : Till) → (all_steps pair steps s).run ≡ run pair (calls_of steps) s.run
 

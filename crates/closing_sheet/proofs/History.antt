@@ -3,20 +3,20 @@
 use Prim.Native.Nat.{ℕ, zero, suc, ◌-◌}
 use mathlib.Core.Path.{◌≡◌, refl, sym, ap, ap₂, ◌∙◌}
 use mathlib.Core.Logic.{◌≢◌, ◌⊎◌, inl, inr}
-use mathlib.Core.List.{List, [], ◌∷◌, ◌++◌, append-nil, append_assoc}
-use mathlib.Core.Option.{none, some}
+use mathlib.Core.List.{List, [], ◌++◌, append-nil, append_assoc}
 use mathlib.Core.Bool.{Bool, true, false, true≢false}
 use native.Mathlib.Omega.{arith}
 use native.Mathlib.Decide.{ℕ_discrete}
 use borrow.Author.Tests.{ne_eqb}
+use Rattle.std.specs.Prelude.{Some}
 use Rattle.formats.specs.Head.{rows_of}
 use Rattle.formats.specs.declared.facts.Facts.{Facts}
 use Rattle.formats.specs.declared.row.RowState.{RowState}
 use Rattle.formats.specs.declared.row.RowState.TheVariants.{Empty, Here, Away, Gone, NoState}
 use Rattle.formats.specs.declared.entry.EntryKind.{EntryKind}
-use Rattle.formats.specs.Entry.{entry_facts}
-use Rattle.calls.specs.Buffers.{Buffers, state_at, kind_at, content_at, facts_at, is_empty, one, no_facts, Within, title_at, rule_at, full_with}
-use Rattle.calls.specs.History.{LastPut, nothing, a_copy, the_holder, Action, granted, checked_out, checked_in, moved, copy_deleted, holder_deleted, actions, times, grant, start, run}
+use Rattle.formats.specs.Entry.{entry_facts, is_spent}
+use Rattle.calls.specs.Buffers.{Buffers, state_at, kind_at, content_at, facts_at, is_empty, one, Within, title_at, rule_at, full_with}
+use Rattle.calls.specs.History.{LastPut, nothing, a_copy, the_holder, Action, actions, grant, start, run}
 use Rattle.calls.specs.Entries.{kind_told}
 use Rattle.calls.proofs.Entries.{Told, told}
 use Rattle.calls.proofs.First.{first_none, first_holds}
@@ -24,8 +24,8 @@ use Rattle.calls.proofs.Views.{inside, view, place_by, full_entry, copies_seen}
 use Rattle.calls.proofs.History.Totals.{total_same}
 use Rattle.calls.proofs.History.Titles.{full, Accounts, TitleInvariant}
 use Rattle.calls.proofs.History.Step.{At, copies_in, fulls_in, holder_found}
-use Rattle.calls.proofs.History.Always.{sound, in_a_state}
-use Rattle.tables.specs.ByTitle.{first_full, is_spent, spent_entries}
+use Rattle.calls.proofs.History.Always.{Blank, empty, no_row, sound, unknown, in_a_state}
+use Rattle.tables.specs.ByTitle.{first_full, spent_entries}
 use Rattle.closing_sheet.specs.declared.line.Line.{Line}
 use Rattle.closing_sheet.specs.Sheet.{state_shown, line_with, line_of, line_text, row_text, rows_text, sheet_text}
 use Rattle.closing_sheet.specs.History.{Printed, TitleOnSheet, SheetAddsUp}
@@ -96,18 +96,6 @@ first_has b c held =
     let (kind, id) = says b c j e in
     record { some_entry = found; at = (j, l, ap₂ (λ (k : EntryKind) (i : ℕ). place_by k i (facts_at b j)) kind id) }
 
--- WHAT WAS NEVER GRANTED
-
-grant_none : (acts : List Action) → grant acts ≡ none → (f : Facts) → times (granted f) acts ≡ 0
-unfolding grant times
-grant_none [] e f = refl
-grant_none (granted g ∷ acts) e f = let z : ◌≡◌ {A = ℕ} 0 1 = cc in omega arith
-grant_none (checked_out ∷ acts) e f = omega (arith, grant_none acts e f)
-grant_none (checked_in ∷ acts) e f = omega (arith, grant_none acts e f)
-grant_none (moved ∷ acts) e f = omega (arith, grant_none acts e f)
-grant_none (copy_deleted ∷ acts) e f = omega (arith, grant_none acts e f)
-grant_none (holder_deleted ∷ acts) e f = omega (arith, grant_none acts e f)
-
 -- A TITLE, BY ITS ROW
 
 module _ (c : ℕ) (acts : List Action) (b : Buffers) where
@@ -120,7 +108,7 @@ module _ (c : ℕ) (acts : List Action) (b : Buffers) where
       is_printed b c (λ z. not-blank (ap (λ (s : RowState). state_shown s 4) (sym row ∙ z))) (λ z. in_one (ap (λ (s : RowState). state_shown s 4) (sym row ∙ z)))
 
   -- the accounts of what is shown
-  from_accounts : (f h : Facts) → grant acts ≡ some f → Accounts acts h (copies_in 999 c (view b)) → (line_of b c).permits ≡ h.permits → (line_of b c).rights ≡ h.rights
+  from_accounts : (f h : Facts) → grant acts ≡ Some f → Accounts acts h (copies_in 999 c (view b)) → (line_of b c).permits ≡ h.permits → (line_of b c).rights ≡ h.rights
       → ((line_of b c).state ≡ 1) ⊎ ((line_of b c).state ≡ 2) → Printed b c → TitleOnSheet c f acts b
   from_accounts f h e accounts p r state printed =
       let i : accounts.given ≡ f = cc in
@@ -133,7 +121,7 @@ module _ (c : ℕ) (acts : List Action) (b : Buffers) where
         deleted = λ d. absurd (d accounts.not_deleted);
       }
 
-  on_sheet : (f : Facts) → grant acts ≡ some f → (r : RowState) → state_at b c ≡ r → Inv r → TitleOnSheet c f acts b
+  on_sheet : (f : Facts) → grant acts ≡ Some f → (r : RowState) → state_at b c ≡ r → Inv r → TitleOnSheet c f acts b
   on_sheet f e Empty row st = let z : ◌≡◌ {A = ℕ} 0 1 = let n = st.no_grant in cc in absurd (omega arith)
   on_sheet f e (Here h) row st =
       let l = (line_shows b c).here h row in
@@ -157,15 +145,10 @@ module _ (c : ℕ) (acts : List Action) (b : Buffers) where
       }
   on_sheet f e NoState row st = let z : ◌≡◌ {A = ℕ} 0 1 = let n = st.no_grant in cc in absurd (omega arith)
 
-  only_granted : grant acts ≡ none → (r : RowState) → r ≢ NoState → Inv r → r ≡ Empty
-  only_granted e Empty in_one st = refl
-  only_granted e (Here h) in_one st = let i = st.accounts.is_grant in let z : ◌≡◌ {A = ℕ} 0 1 = cc in absurd (omega arith)
-  only_granted e Away in_one st =
-      let i = (st.accounts _ (first_has b c (omega (arith, st.one_full))).at).is_grant in
-      let z : ◌≡◌ {A = ℕ} 0 1 = cc in
-      absurd (omega arith)
-  only_granted e Gone in_one st = absurd (omega (arith, st.once no_facts, grant_none acts e no_facts))
-  only_granted e NoState in_one st = absurd (in_one refl)
+-- a row that is blank and in a state is empty
+is_empty_row : {r : RowState} → Blank r → r ≢ NoState → r ≡ Empty
+is_empty_row empty in_one = refl
+is_empty_row no_row in_one = absurd (in_one refl)
 
 -- AN ENTRY is spent where a title was taken from it
 told_spent : (put : LastPut) (taken : Bool) → (put ≡ nothing → taken ≡ false) → is_spent (kind_told put taken) ≡ taken
@@ -185,6 +168,7 @@ sheet_adds_up pair rows application card_application low high ks =
     record {
       titles = λ c f e. on_sheet c (actions c w.log) w.buffers f e (state_at w.buffers c) refl (s.inv.titles c);
       no_other = λ c l e.
-          only_granted c (actions c w.log) w.buffers e (state_at w.buffers c) (in_a_state pair rows application card_application low high ks c l) (s.inv.titles c);
+          is_empty_row (unknown c (actions c w.log) w.buffers e (state_at w.buffers c) refl (s.inv.titles c)).row
+          (in_a_state pair rows application card_application low high ks c l);
       spent = unfold spent_entries in total_same 999 _ _ (λ j l. ap one (spent_is (told pair rows application card_application ks j l)));
     }

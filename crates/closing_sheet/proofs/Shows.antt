@@ -14,16 +14,16 @@ use Rattle.formats.specs.Head.{rows_of}
 use Rattle.formats.specs.declared.head.Pair.{Pair}
 use Rattle.formats.specs.declared.entry.EntryKind.{EntryKind}
 use Rattle.formats.specs.declared.entry.EntryKind.TheVariants.{Free, Copy, Full, Torn, Spent}
-use Rattle.formats.specs.Entry.{entry_facts}
+use Rattle.formats.specs.Entry.{entry_facts, is_full, is_spent}
 use Rattle.formats.proofs.Tests.{split, both, refuted}
 use Rattle.formats.proofs.head.Laws.{fresh_rows}
-use Rattle.calls.specs.Buffers.{Buffers, state_at, kind_at, content_at, is_empty, is_full, one, total, fresh, Within, title_at, rule_at, full_with}
+use Rattle.calls.specs.Buffers.{Buffers, state_at, kind_at, content_at, is_empty, one, total, fresh, Within, title_at, rule_at, full_with}
 use Rattle.calls.proofs.Passed.{is_full_lem}
 use Rattle.calls.proofs.Refusals.{holds_not}
 use Rattle.calls.proofs.First.{first_holds, first_is}
 use Rattle.calls.proofs.Fresh.{fresh_empty, fresh_free}
 use Rattle.calls.proofs.History.Totals.{total_none}
-use Rattle.tables.specs.ByTitle.{first_full, is_spent, spent_at, spent_entries}
+use Rattle.tables.specs.ByTitle.{first_full, spent_at, spent_entries}
 use Rattle.text.specs.Text.{decimal_in, decimal, field, line}
 use Rattle.closing_sheet.specs.Sheet.{line_with, line_of, rows_text, permits_added, copies_added, permits_total, copies_total, total_line, spent_line, last_lines, sheet_text, line_text}
 use Rattle.closing_sheet.specs.Shows.{NoFullBefore, LineShows, TextOf, Totals, SpentCounted, SampleLines, SheetShows}

@@ -1,6 +1,5 @@
 -- What a shop's manager can check by the sheet, after every list of calls of demand 3.
-use Rattle.std.specs.Prelude.{ℕ, ◌+◌, ◌-◌, ◌≤◌, ◌≡◌, ◌≢◌, ◌⊎◌, List, ◌++◌}
-use Rattle.std.proofs.Math.Option.{none, some}
+use Rattle.std.specs.Prelude.{ℕ, ◌+◌, ◌-◌, ◌≤◌, ◌≡◌, ◌≢◌, ◌⊎◌, List, ◌++◌, None, Some}
 use Rattle.formats.specs.declared.head.Pair.{Pair}
 use Rattle.formats.specs.declared.facts.Facts.{Facts}
 use Rattle.formats.specs.declared.row.RowState.TheVariants.{Empty}
@@ -29,9 +28,10 @@ pub record TitleOnSheet (c : ℕ) (f : Facts) (acts : List Action) (b : Buffers)
 
 -- after every list of calls from any fresh ledger and card: every title granted in it has its line, and no other row has one
 pub record OnSheet (rows : ℕ) (w : Run) : Type 0 where
-  pub titles : (c : ℕ) (f : Facts) → grant (actions c w.log) ≡ some f → TitleOnSheet c f (actions c w.log) w.buffers
-  pub no_other : (c : ℕ) → Within rows c → grant (actions c w.log) ≡ none → state_at w.buffers c ≡ Empty
-  -- W7: the number behind `spent`, which ends the text (`Shows`), is that of the entries from which a copy or a title was taken
+  pub titles : (c : ℕ) (f : Facts) → grant (actions c w.log) ≡ Some f → TitleOnSheet c f (actions c w.log) w.buffers
+  pub no_other : (c : ℕ) → Within rows c → grant (actions c w.log) ≡ None → state_at w.buffers c ≡ Empty
+  -- W7: the number behind `spent`, which ends the text (`Shows`), is that of the entries at which the last done call took a copy
+  -- or a title away
   pub spent : spent_entries w.buffers.titles w.buffers.rules ≡ total 999 (λ j. one (taken_from j w.log))
 
 abbrev pub SheetAddsUp : Type 0

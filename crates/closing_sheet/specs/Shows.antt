@@ -77,7 +77,7 @@ abbrev pub sample_buffers : Buffers
 sample_buffers =
     record {
       ledger = 0 ∷ 0 ∷ 0 ∷ 4 ∷ (replicate 20 0 ++ (here_row limited ++ (plain_row 2 ++ (plain_row 0 ++ here_row unlimited))));
-      titles = replicate 16 0 ++ (title_half 2 9 2 ++ (title_half 2 5 1 ++ wiped (title_half 0 7 4) 1));
+      titles = replicate 16 0 ++ (title_half 2 9 2 ++ (title_half 3 5 1 ++ wiped (title_half 0 7 4) 1));
       rules = replicate 32 0 ++ rule_half (record { cci = 2; trigger = 0; rights = 5; permits = 3; title_key = 9; sti_key = 10 }) 0 2;
     }
 

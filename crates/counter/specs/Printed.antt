@@ -24,7 +24,7 @@ end_word = codes "end "
 unfoldable pub end_line : ℕ → List ℕ
 end_line stop = end_word ++ line (stop ∷ [])
 
--- of the bytes on standard input
+-- of the bytes that were read from standard input, at most 4,096
 unfoldable pub counter_printed : List ℕ → List ℕ
 counter_printed s = answer_lines (kinds_in (program_run s)) (answers_in (program_run s)) ++ end_line (stream_of s).stop
 

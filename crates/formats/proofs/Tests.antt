@@ -5,7 +5,7 @@ use mathlib.Core.Path.{◌≡◌, refl, sym, ap, ◌∙◌}
 use mathlib.Core.Bool.{Bool, true, false, ◌&&◌, ◌||◌, true≢false}
 use mathlib.Core.Logic.{◌⊎◌, inl, inr}
 use native.Mathlib.Omega.{arith}
-use Rattle.formats.specs.Refusal.{unless}
+use Rattle.formats.specs.Refusal.{refused_unless}
 
 -- both parts hold where the whole does
 pub split : (a b : Bool) → (a && b) ≡ true → (a ≡ true) × (b ≡ true)
@@ -43,14 +43,14 @@ one_holds {a = true} (inr e) = refl
 one_holds {a = false} (inr e) = e
 
 -- the answer where a test cannot hold is the refusal
-pub refuses : {b : Bool} {w : ℕ} → (b ≡ true → ⊥) → w ≡ unless b w
-refuses {b} {w} h = sym (ap (λ (x : Bool). unless x w) (refuted h))
+pub refuses : {b : Bool} {w : ℕ} → (b ≡ true → ⊥) → w ≡ refused_unless b w
+refuses {b} {w} h = sym (ap (λ (x : Bool). refused_unless x w) (refuted h))
 
 -- the answer where a test holds is 0
-pub passes : {b : Bool} (w : ℕ) → b ≡ true → 0 ≡ unless b w
-passes w e = sym (ap (λ (x : Bool). unless x w) e)
+pub passes : {b : Bool} (w : ℕ) → b ≡ true → 0 ≡ refused_unless b w
+passes w e = sym (ap (λ (x : Bool). refused_unless x w) e)
 
 -- a test whose answer is 0 holds
-pub passed : (b : Bool) (w : ℕ) → 0 < w → unless b w ≡ 0 → b ≡ true
+pub passed : (b : Bool) (w : ℕ) → 0 < w → refused_unless b w ≡ 0 → b ≡ true
 passed true w h e = refl
 passed false w h e = absurd (omega arith)

@@ -9,7 +9,7 @@ use Rattle.formats.specs.declared.entry.EntryKind.TheVariants.{Free, Copy, Full,
 
 -- "free, no half usable; copy, only the title half usable; full, both usable with equal IDs; torn, anything else", and W7: "The kinds
 -- of entry gain a fifth, spent: no half usable, and a title half with flag 0 and an ID from 1 to 999. Free now means no half usable
--- and not spent." By which halves are usable, whether their IDs are the same, and whether the title half names a spent title
+-- and not spent." It goes by which halves are usable, whether their IDs are the same, and whether the title half names a spent title
 abbrev pub kind_by : Bool → Bool → Bool → Bool → EntryKind
 kind_by false false same false = Free
 kind_by false false same true = Spent
@@ -35,6 +35,29 @@ is_vacant Copy = false
 is_vacant Full = false
 is_vacant Torn = false
 is_vacant Spent = true
+
+-- the other kinds that calls ask for
+abbrev pub is_copy : EntryKind → Bool
+is_copy Free = false
+is_copy Copy = true
+is_copy Full = false
+is_copy Torn = false
+is_copy Spent = false
+
+abbrev pub is_full : EntryKind → Bool
+is_full Free = false
+is_full Copy = false
+is_full Full = true
+is_full Torn = false
+is_full Spent = false
+
+-- and the one that the sheet counts
+abbrev pub is_spent : EntryKind → Bool
+is_spent Free = false
+is_spent Copy = false
+is_spent Full = false
+is_spent Torn = false
+is_spent Spent = true
 
 -- "the entry's facts": CCI and title key from its title half, trigger, rights, permits and STI key from its rule half
 unfoldable pub entry_facts : List ℕ → List ℕ → Facts

@@ -1,6 +1,6 @@
 -- The heads of the ledger and of the two card tables, and the tables as formatting leaves them.
 use Rattle.std.specs.Prelude.{ℕ, ◌+◌, ◌*◌, ◌≤◌, ◌≡◌, ◌⊎◌, List, [], ◌∷◌, ◌++◌, Bool, ◌&&◌, ◌||◌, length, get_or, replicate, leb, eqb}
-use Rattle.formats.specs.Refusal.{unless}
+use Rattle.formats.specs.Refusal.{refused_unless}
 use Rattle.formats.specs.Facts.{numbered}
 use Rattle.formats.specs.Part.{part}
 use Rattle.formats.specs.Field.{number, bytes_of}
@@ -83,19 +83,19 @@ pub record RulesHead (pair : Pair) (r : List ℕ) : Type 0 where
 
 -- "7 ledger length or head wrong"
 abbrev pub ledger_answer : List ℕ → ℕ
-ledger_answer l = unless (ledger_passes l) 7
+ledger_answer l = refused_unless (ledger_passes l) 7
 
 -- "8 title table length or head wrong"
 abbrev pub titles_answer : Pair → List ℕ → ℕ
-titles_answer pair t = unless (titles_pass pair t) 8
+titles_answer pair t = refused_unless (titles_pass pair t) 8
 
 -- "9 rule table likewise" (a tally, without ledger, skips the application number)
 abbrev pub rules_answer : Pair → List ℕ → ℕ
-rules_answer pair r = unless (rules_pass pair r) 9
+rules_answer pair r = refused_unless (rules_pass pair r) 9
 
 -- "its application number other than the ledger's included"
 abbrev pub rules_answer_for : Pair → ℕ → List ℕ → ℕ
-rules_answer_for pair application r = unless (rules_pass pair r && eqb (rules_application r) application) 9
+rules_answer_for pair application r = refused_unless (rules_pass pair r && eqb (rules_application r) application) 9
 
 -- "Formatting a ledger or card writes a fresh one: heads as above (versions 10h, 11h), everything ignored zero,
 -- all rows and entries zero."

@@ -1,5 +1,5 @@
--- The layouts once more, in plain bytes and numbers. The definitions that effects and conditions are written with are stated here
--- to have them, so that a slip in a definition does not pass because the code has the same slip.
+-- The layouts once more, in plain bytes and numbers: that the definitions which effects and conditions are written with have them, so
+-- that a slip in a definition does not pass because the code has the same slip.
 use Rattle.std.specs.Prelude.{ℕ, ◌+◌, ◌*◌, ◌/◌, ◌%◌, ◌^◌, ◌≤◌, ◌<◌, ◌≡◌, ◌⊎◌, ◌↔◌, List, [], ◌∷◌, ◌++◌, true, false, length, get_or, replicate}
 use Rattle.formats.specs.Bytes.{Bytes}
 use Rattle.formats.specs.Part.{part}

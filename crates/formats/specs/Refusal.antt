@@ -1,6 +1,6 @@
 -- Refusals: the paper's numbers of them, and of what answers one or is done.
-use Rattle.std.specs.Prelude.{ℕ, List, [], Bool, true, false, Result, Ok, Err}
-use Rattle.formats.specs.Answer.{Answer, case}
+use Rattle.std.specs.Prelude.{ℕ, List, Bool, true, false, Result, Ok, Err}
+use Rattle.formats.specs.Answer.{Answer, done, refused}
 use Rattle.formats.specs.declared.refusal.Refusal.{Refusal}
 use Rattle.formats.specs.declared.refusal.Refusal.TheVariants.{TooShort, Number, Kind, ContentId, EntryNumber, Facts, Ledger, Titles, Rules, KindOfEntry, StateOfRow, NothingLeft, Hash, CopyOut, PermitsFull, Filler, Basket, Scratch}
 
@@ -32,10 +32,10 @@ answer_number (Err w) = number_of w
 
 -- the paper's number and values of each case of an answer, where done has the values of what it found
 abbrev pub answer_of : {A : Type 0} → (A → List ℕ) → Result A Refusal → Answer
-answer_of values (Ok a) = case 0 (values a)
-answer_of values (Err w) = case (number_of w) []
+answer_of values (Ok a) = done (values a)
+answer_of values (Err w) = refused (number_of w)
 
 -- "Done is 0": 0 where the test passes, else the refusal
-abbrev pub unless : Bool → ℕ → ℕ
-unless true w = 0
-unless false w = w
+abbrev pub refused_unless : Bool → ℕ → ℕ
+refused_unless true w = 0
+refused_unless false w = w

@@ -5,7 +5,8 @@ ghost use Rattle.formats.specs.Entry.{kind_of, is_vacant, entry_facts};
 use crate::facts::Facts;
 use crate::{facts, half, rule, title};
 
-#[derive(Clone, Copy, Debug, PartialEq, Eq)]
+// Whoever asks for it has a `match` that names all five: two kinds cannot be compared.
+#[derive(Clone, Copy, Debug)]
 pub enum EntryKind {
     // No half is usable, and the entry is not spent.
     Free,

@@ -26,6 +26,7 @@ use Rattle.calls.proofs.Refusals.{holds_not, refused_by, meets}
 use Rattle.tables.proofs.Told.{told_first, told_other_pair}
 use Rattle.inspection.specs.Inspect.{entry_told, state_told, title_told, vacant_from, first_vacant, entry_inspected, row_inspected, title_inspected, first_vacant_told}
 use Rattle.inspection.specs.Demand1.{InspectsEntry, InspectsRow, InspectsTitle, FirstVacant, InspectsOtherPair, EntryShows, RowShows, VacantShows, NotRefused10, TakesAtFirstVacant, Demand1Inspection}
+use Rattle.inspection.proofs.Counted.{row, full, copied, title_shows}
 use Rattle.inspection.proofs.Version.{any_version}
 
 -- REFUSED FIRST
@@ -148,6 +149,7 @@ demand_1_inspection =
       of_other_pair = inspects_other_pair;
       entry_shows = entry_shows;
       row_shows = row_shows;
+      title_shows = λ b c. (row b c, full b c, copied b c, title_shows b c);
       vacant_shows = vacant_shows;
       takes = takes;
       any_version = any_version;

@@ -4,8 +4,8 @@ use Prim.Native.Nat.{ℕ, ◌^◌, ◌<◌}
 use mathlib.Core.Path.{◌≡◌, refl, sym, ap, ap₂, ◌∙◌}
 use mathlib.Core.Logic.{◌≢◌, inl, inr}
 use mathlib.Core.List.{List, [], ◌∷◌}
-use mathlib.Core.Option.{some}
 use native.Mathlib.Omega.{arith}
+use Rattle.std.specs.Prelude.{Some}
 use Rattle.formats.specs.Answer.{done}
 use Rattle.formats.specs.declared.head.Pair.{Pair}
 use Rattle.formats.specs.declared.facts.Facts.{Facts}
@@ -13,22 +13,22 @@ use Rattle.formats.specs.declared.row.RowState.{RowState}
 use Rattle.formats.specs.declared.row.RowState.TheVariants.{Empty, Here, Away, Gone, NoState}
 use Rattle.requests.specs.declared.request.Request.{Request}
 use Rattle.calls.specs.Buffers.{Buffers, state_at, copies, Within}
-use Rattle.calls.specs.History.{Action, actions, grant, holders, start, run}
+use Rattle.calls.specs.History.{Run, Action, actions, grant, holders, start, run}
 use Rattle.calls.specs.Needs.{RulesOfLedger}
 use Rattle.calls.proofs.Fresh.{each_fresh_head}
-use Rattle.calls.proofs.History.Always.{sound, heads_stay, history}
+use Rattle.calls.proofs.History.Always.{sound, in_a_state as row_in_a_state, heads_stay, history, no_others}
 use Rattle.calls.proofs.History.Step.{At, copies_in, fulls_in}
 use Rattle.calls.proofs.History.Titles.{TitleInvariant}
 use Rattle.calls.proofs.Named.{HeadsPass, heads_pass}
 use Rattle.calls.proofs.Views.{inside, view}
 use Rattle.tables.proofs.Told.{told_done, told_refused}
 use Rattle.inspection.specs.Inspect.{title_inspected}
-use Rattle.inspection.specs.History.{AllInspect, InspectsOne}
+use Rattle.inspection.specs.History.{TitleInspects, AllInspect, InspectsOne}
 use Rattle.inspection.proofs.Demand1.{inspects_title}
 
 module _ (pair : Pair) (c : ℕ) (acts : List Action) (b : Buffers) where
   -- the row of a title that was granted is in a state
-  in_a_state : (f : Facts) → grant acts ≡ some f → (r : RowState)
+  in_a_state : (f : Facts) → grant acts ≡ Some f → (r : RowState)
       → TitleInvariant c acts (copies_in 999 c (view b)) (fulls_in 999 c (view b)) (At 999 (view b)) r → r ≢ NoState
   in_a_state f e Empty st z = let y : ◌≡◌ {A = ℕ} 0 1 = cc in absurd (omega arith)
   in_a_state f e (Here h) st z = let y : ◌≡◌ {A = ℕ} 0 1 = cc in absurd (omega arith)
@@ -46,26 +46,41 @@ module _ (pair : Pair) (c : ℕ) (acts : List Action) (b : Buffers) where
       told_done d answered ∙ ap done (ap₂ (λ (x y : ℕ). x ∷ y ∷ []) of_holders of_copies)
 
 -- of one application
-all_inspect : (pair : Pair) (rows application : ℕ) → Within 999 rows → application < 2 ^ 16 → (ks : List Request)
-    → AllInspect pair (run pair ks (start pair rows application application))
-all_inspect pair rows application in_limits small ks c f e =
-    let w = run pair ks (start pair rows application application) in
-    let acts = actions c w.log in
-    let s = sound pair rows application application in_limits.from in_limits.to ks in
-    let claim = history pair rows application application in_limits.from in_limits.to ks c f e in
-    let fresh = each_fresh_head pair rows application application in_limits.from in_limits.to small small in
-    let heads = heads_pass (heads_stay pair ks (start pair rows application application) fresh) in
-    let in_one = in_a_state pair c acts w.buffers f e (state_at w.buffers c) (s.inv.titles c) in
-    record {
-      unless_deleted = λ z.
-          let stands = claim.unless_deleted z in
-          record {
-            out = copies c w.buffers.titles w.buffers.rules;
-            inspected = told pair c acts w.buffers heads in_one stands.one_holder refl;
-            loans = stands.check_outs;
-          };
-      if_deleted = λ d. let none = claim.if_deleted d in told pair c acts w.buffers heads in_one none.no_holder none.no_copy;
-    }
+module _ (pair : Pair) (rows application : ℕ) (in_limits : Within 999 rows) (small : application < 2 ^ 16) (ks : List Request) where
+  abbrev w : Run
+  w = run pair ks (start pair rows application application)
+
+  heads : HeadsPass pair w.buffers
+  heads =
+      let fresh = each_fresh_head pair rows application application in_limits.from in_limits.to small small in
+      heads_pass (heads_stay pair ks (start pair rows application application) fresh)
+
+  granted_title : (c : ℕ) (f : Facts) → grant (actions c w.log) ≡ Some f → TitleInspects pair c (actions c w.log) w.buffers
+  granted_title c f e =
+      let acts = actions c w.log in
+      let s = sound pair rows application application in_limits.from in_limits.to ks in
+      let claim = history pair rows application application in_limits.from in_limits.to ks c f e in
+      let in_one = in_a_state pair c acts w.buffers f e (state_at w.buffers c) (s.inv.titles c) in
+      record {
+        unless_deleted = λ z.
+            let stands = claim.unless_deleted z in
+            record {
+              out = copies c w.buffers.titles w.buffers.rules;
+              inspected = told pair c acts w.buffers heads in_one stands.one_holder refl;
+              loans = stands.check_outs;
+            };
+        if_deleted = λ d. let none = claim.if_deleted d in told pair c acts w.buffers heads in_one none.no_holder none.no_copy;
+      }
+
+  all_inspect : AllInspect pair rows w
+  all_inspect =
+      record {
+        titles = granted_title;
+        no_other = λ c l e.
+            let none = no_others pair rows application application in_limits.from in_limits.to ks c e in
+            let in_one = row_in_a_state pair rows application application in_limits.from in_limits.to ks c l in
+            told pair c (actions c w.log) w.buffers heads in_one none.no_holder none.no_copy;
+      }
 
 -- and of two
 pub inspects_one : InspectsOne

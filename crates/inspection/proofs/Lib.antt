@@ -1,4 +1,5 @@
 pub mod Vacant
 pub mod Version
+pub mod Counted
 pub mod Demand1
 pub mod History

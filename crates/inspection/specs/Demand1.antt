@@ -1,5 +1,5 @@
 -- Demand 1 of inspection, what it tells as facts, and that a card with a later rule version is inspected like any other.
-use Rattle.std.specs.Prelude.{ℕ, ◌≤◌, ◌<◌, ◌≡◌, ◌≢◌, List, [], ◌∷◌, ◌++◌}
+use Rattle.std.specs.Prelude.{ℕ, ◌+◌, ◌≤◌, ◌<◌, ◌≡◌, ◌≢◌, List, [], ◌∷◌, ◌++◌}
 use Rattle.formats.specs.declared.head.Pair.{Pair}
 use Rattle.formats.specs.Answer.{done}
 use Rattle.formats.specs.Part.{put}
@@ -10,7 +10,7 @@ use Rattle.formats.specs.declared.facts.Facts.{Facts}
 use Rattle.formats.specs.declared.entry.EntryKind.TheVariants.{Free, Copy, Full, Torn, Spent}
 use Rattle.formats.specs.declared.row.RowState.TheVariants.{Empty, Here, Away, Gone, NoState}
 use Rattle.requests.specs.declared.request.Request.TheVariants.{Record, CheckOut, MoveIn}
-use Rattle.calls.specs.Buffers.{Buffers, buffers_of, title_at, rule_at, kind_at, content_at, facts_at, cci_at, title_key_at, state_in, Within}
+use Rattle.calls.specs.Buffers.{Buffers, buffers_of, title_at, rule_at, kind_at, content_at, facts_at, cci_at, title_key_at, state_in, state_at, total, Within}
 use Rattle.calls.specs.Needs.{◌needs◌, head_needs, Vacant}
 use Rattle.calls.specs.Perform.{perform}
 use Rattle.tables.specs.Told.{RefusedOrTold, ToldOtherPair}
@@ -65,6 +65,19 @@ pub record RowShows (ledger : List ℕ) (c : ℕ) (told : List ℕ) : Type 0 whe
   pub gone : state_in ledger c ≡ Gone → told ≡ 3 ∷ 0 ∷ 0 ∷ 0 ∷ 0 ∷ 0 ∷ 0 ∷ []
   pub no_state : state_in ledger c ≡ NoState → told ≡ 4 ∷ 0 ∷ 0 ∷ 0 ∷ 0 ∷ 0 ∷ 0 ∷ []
 
+-- of title c: its holders, which are its row where it is here and each full entry with ID c, and its copies. Each counts once, and nothing else
+pub record TitleShows (b : Buffers) (c row : ℕ) (full copied : ℕ → ℕ) : Type 0 where
+  pub told : title_told b c ≡ (row + total 999 full) ∷ total 999 copied ∷ []
+  pub here : (f : Facts) → state_at b c ≡ Here f → row ≡ 1
+  pub not_here : ((f : Facts) → state_at b c ≢ Here f) → row ≡ 0
+  pub of_full : (j : ℕ) → kind_at b j ≡ Full → content_at b j ≡ c → full j ≡ 1
+  pub of_no_full : (j : ℕ) → (kind_at b j ≡ Full → content_at b j ≢ c) → full j ≡ 0
+  pub of_copy : (j : ℕ) → kind_at b j ≡ Copy → content_at b j ≡ c → copied j ≡ 1
+  pub of_no_copy : (j : ℕ) → (kind_at b j ≡ Copy → content_at b j ≢ c) → copied j ≡ 0
+  -- so there are at most as many as there are places for
+  pub most_holders : row + total 999 full ≤ 1000
+  pub most_copies : total 999 copied ≤ 999
+
 -- no entry from `from` on and before entry j is vacant
 abbrev pub NoneVacant : Buffers → ℕ → ℕ → Type 0
 NoneVacant b from j = (i : ℕ) → Within 999 i → from ≤ i → i < j → Vacant b i → ⊥
@@ -114,6 +127,7 @@ pub record Demand1Inspection : Type 0 where
   pub of_other_pair : (pair : Pair) (b : Buffers) → InspectsOtherPair pair b
   pub entry_shows : (b : Buffers) (j : ℕ) → EntryShows b j (entry_told (title_at b.titles j) (rule_at b.rules j))
   pub row_shows : (ledger : List ℕ) (c : ℕ) → RowShows ledger c (state_told (state_in ledger c))
+  pub title_shows : (b : Buffers) (c : ℕ) → (row : ℕ) × (full : ℕ → ℕ) × (copied : ℕ → ℕ) × TitleShows b c row full copied
   pub vacant_shows : (b : Buffers) (from : ℕ) → VacantShows b from (first_vacant from b.titles b.rules)
   pub takes : TakesAtFirstVacant
   pub any_version : AnyVersion

@@ -1,7 +1,6 @@
 -- What inspection tells after a list of calls of demand 3: each title that was granted and not deleted has one holder, and as many copies as
--- loans that are out.
-use Rattle.std.specs.Prelude.{ℕ, ◌+◌, ◌^◌, ◌<◌, ◌≡◌, ◌≢◌, List, [], ◌∷◌}
-use Rattle.std.proofs.Math.Option.{some}
+-- loans that are out; any other has neither.
+use Rattle.std.specs.Prelude.{ℕ, ◌+◌, ◌^◌, ◌<◌, ◌≡◌, ◌≢◌, List, [], ◌∷◌, None, Some}
 use Rattle.formats.specs.Answer.{done, refused}
 use Rattle.formats.specs.declared.head.Pair.{Pair}
 use Rattle.formats.specs.declared.facts.Facts.{Facts}
@@ -21,14 +20,15 @@ pub record TitleInspects (pair : Pair) (c : ℕ) (acts : List Action) (b : Buffe
   pub unless_deleted : times holder_deleted acts ≡ 0 → OneHolder pair c acts b
   pub if_deleted : times holder_deleted acts ≢ 0 → title_inspected pair b c ≡ done (0 ∷ 0 ∷ [])
 
--- of every title granted in a run
-abbrev pub AllInspect : Pair → Run → Type 0
-AllInspect pair w = (c : ℕ) (f : Facts) → grant (actions c w.log) ≡ some f → TitleInspects pair c (actions c w.log) w.buffers
+-- of every title granted in a run, and of every other row of the ledger
+pub record AllInspect (pair : Pair) (rows : ℕ) (w : Run) : Type 0 where
+  pub titles : (c : ℕ) (f : Facts) → grant (actions c w.log) ≡ Some f → TitleInspects pair c (actions c w.log) w.buffers
+  pub no_other : (c : ℕ) → Within rows c → grant (actions c w.log) ≡ None → title_inspected pair w.buffers c ≡ done (0 ∷ 0 ∷ [])
 
 -- after every list of calls from a fresh ledger and card, "whatever R and the application numbers"
 pub record InspectsOne : Type 0 where
   pub of_one_application : (pair : Pair) (rows application : ℕ) → Within 999 rows → application < 2 ^ 16 → (ks : List Request)
-      → AllInspect pair (run pair ks (start pair rows application application))
+      → AllInspect pair rows (run pair ks (start pair rows application application))
   -- a card of another application is not looked at beside this ledger, whatever title is asked for: "9 .. its application number other
   -- than the ledger's included"
   pub of_two : (pair : Pair) (rows application card_application : ℕ) → Within 999 rows → application < 2 ^ 16 → card_application < 2 ^ 16

@@ -5,10 +5,10 @@ use mathlib.Core.Path.{◌≡◌, refl, sym, ap, ◌∙◌}
 use mathlib.Core.List.{List}
 use mathlib.Core.Bool.{Bool, true, false, cond, true≢false}
 use mathlib.Core.Logic.{◌≢◌}
-use mathlib.Core.Option.{some, none}
 use lib.ListN.{length}
 use borrow.Author.Tests.{ne_eqb}
-use Rattle.std.specs.Prelude.{Result}
+use Rattle.formats.specs.Entry.{is_full}
+use Rattle.std.specs.Prelude.{Result, Some, None}
 use Rattle.std.specs.Result.{IsErrAnd}
 use Rattle.formats.specs.Refusal.{number_of, answer_number}
 use Rattle.formats.specs.declared.refusal.Refusal.{Refusal}
@@ -19,7 +19,7 @@ use Rattle.requests.specs.declared.request.Request.TheVariants.{Register, Record
 use Rattle.formats.specs.declared.facts.EntryNumber.{EntryNumber}
 use Rattle.formats.specs.declared.facts.Fillers.{Fillers}
 use Rattle.formats.specs.declared.row.RowState.TheVariants.{Away}
-use Rattle.calls.specs.Buffers.{Buffers, kind_at, content_at, is_full}
+use Rattle.calls.specs.Buffers.{Buffers, kind_at, content_at}
 use Rattle.calls.specs.Effect.{effect}
 use Rattle.calls.specs.Perform.{refusal, perform}
 use Rattle.calls.proofs.Named.{Deletable, deletes_copy, deletes_holder, Named}
@@ -30,19 +30,19 @@ use Rattle.music_counter.specs.Answer.{Answers, SlotInside, Inside}
 -- THE PLACES of a call whose needs are met lie in its tables
 
 -- a slot that is named where a test holds
-slot_where : (x : Bool) (width i : ℕ) (table : List ℕ) → (x ≡ true → SlotInside width (some i) table) → SlotInside width (cond x (some i) none) table
+slot_where : (x : Bool) (width i : ℕ) (table : List ℕ) → (x ≡ true → SlotInside width (Some i) table) → SlotInside width (cond x (Some i) None) table
 slot_where true width i table h = h refl
 slot_where false width i table h = tt
 
 module _ (b : Buffers) (j : ℕ) (on : OnCard b j) where
-  title_inside : SlotInside 16 (some j) b.titles
+  title_inside : SlotInside 16 (Some j) b.titles
   title_inside = entry_inside 16 b.titles on.titles_long j on.entry
 
-  rule_inside : SlotInside 32 (some j) b.rules
+  rule_inside : SlotInside 32 (Some j) b.rules
   rule_inside = entry_inside 32 b.rules on.rules_long j on.entry
 
   -- the row of a full entry that is deleted
-  deleted_row : {pair : Pair} {f : Fillers} → Deletable pair j f b → is_full (kind_at b j) ≡ true → SlotInside 24 (some (content_at b j)) b.ledger
+  deleted_row : {pair : Pair} {f : Fillers} → Deletable pair j f b → is_full (kind_at b j) ≡ true → SlotInside 24 (Some (content_at b j)) b.ledger
   deleted_row (deletes_copy e) full = absurd (true≢false (sym full ∙ ap is_full e))
   deleted_row (deletes_holder e away key) full = row_inside b.ledger (content_at b j) (row_in b (content_at b j) Away refl on.head away)
 

@@ -9,14 +9,14 @@ use Rattle.formats.specs.Half.{id_of, wiped}
 use Rattle.formats.specs.Title.{title_half}
 use Rattle.formats.specs.Rule.{wiped_rule}
 use Rattle.formats.specs.Row.{here_row, plain_row, with_permits}
-use Rattle.formats.specs.Entry.{kind_of, entry_facts}
+use Rattle.formats.specs.Entry.{kind_of, entry_facts, is_full}
 use Rattle.formats.specs.declared.facts.ContentId.{ContentId}
 use Rattle.formats.specs.declared.facts.EntryNumber.{EntryNumber}
 use Rattle.formats.specs.declared.facts.Facts.{Facts}
 use Rattle.formats.specs.declared.facts.Fillers.{Fillers}
 use Rattle.requests.specs.declared.request.Request.TheVariants.{Record, CheckOut, CheckIn, MoveOut, MoveIn, Delete}
 use Rattle.calls.specs.Count.{one_less, one_more}
-use Rattle.calls.specs.Buffers.{buffers_of, row_at, title_at, rule_at, state_in, here_facts, is_full}
+use Rattle.calls.specs.Buffers.{buffers_of, row_at, title_at, rule_at, state_in, here_facts}
 use Rattle.calls.specs.Effect.{copy_cci, effect, after_move}
 
 -- three buffers, each as it should be

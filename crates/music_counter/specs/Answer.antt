@@ -1,6 +1,5 @@
 -- What a call in code promises: "the answer, and every byte lent to it afterwards", for refused calls as well.
-use Rattle.std.specs.Prelude.{ℕ, ◌+◌, ◌*◌, ◌≤◌, ◌≡◌, List, length}
-use Rattle.std.proofs.Math.Option.{Option, none, some}
+use Rattle.std.specs.Prelude.{ℕ, ◌+◌, ◌*◌, ◌≤◌, ◌≡◌, List, length, Option, None, Some}
 use Rattle.formats.specs.declared.head.Pair.{Pair}
 use Rattle.requests.specs.declared.request.Request.{Request}
 use Rattle.calls.specs.Buffers.{Buffers, buffers_of}
@@ -18,8 +17,8 @@ AnswersByLedger k ledger r after =
 
 -- slot i of a table of slots of one width lies in it, where a slot is named
 abbrev pub SlotInside : ℕ → Option ℕ → List ℕ → Type 0
-SlotInside width none table = Unit {0}
-SlotInside width (some i) table = width * i + width ≤ length table
+SlotInside width None table = Unit {0}
+SlotInside width (Some i) table = width * i + width ≤ length table
 
 -- the row and the halves that a call writes lie in their tables: what its effect in code asks for
 pub record Inside (k : Request) (b : Buffers) : Type 0 where

@@ -1,8 +1,9 @@
 // 7 delete: a copy is wiped, whatever its row; a full entry is wiped, and its row, away until then, is gone.
 ghost use Rattle.std.specs.Prelude.{◌≡◌};
+ghost use Rattle.formats.specs.Entry.{is_full};
 ghost use Rattle.formats.specs.Refusal.{answer_number};
 ghost use Rattle.requests.specs.declared.request.Request.TheVariants.{Delete};
-ghost use Rattle.calls.specs.Buffers.{buffers_of, kind_at, is_full};
+ghost use Rattle.calls.specs.Buffers.{buffers_of, kind_at};
 ghost use Rattle.calls.specs.Effect.{effect};
 ghost use Rattle.music_counter.specs.Answer.{Answers, Inside};
 

@@ -1,4 +1,4 @@
--- What calls test before they look at an entry, as the code does it at once.
+-- What the calls that are given no facts test before they look at the state of a row or an entry.
 use Rattle.std.specs.Prelude.{ℕ, List, ◌∷◌}
 use Rattle.formats.specs.declared.head.Pair.{Pair}
 use Rattle.calls.specs.Buffers.{Buffers}
@@ -7,9 +7,9 @@ use Rattle.requests.specs.declared.request.Argument.TheVariants.{Content, Entry}
 use Rattle.calls.specs.Conditions.{◌limits◌, all_head_conditions}
 
 -- 5 j not 1 to 999; 7, 8 and 9 the heads
-abbrev pub entry_conditions : Pair → ℕ → Buffers → List Condition
-entry_conditions pair j b = Entry limits j ∷ all_head_conditions pair b
+abbrev pub before_entry_conditions : Pair → ℕ → Buffers → List Condition
+before_entry_conditions pair j b = Entry limits j ∷ all_head_conditions pair b
 
 -- 4 c not 1 to 999, before them
-abbrev pub title_conditions : Pair → ℕ → ℕ → Buffers → List Condition
-title_conditions pair c j b = Content limits c ∷ entry_conditions pair j b
+abbrev pub before_both_conditions : Pair → ℕ → ℕ → Buffers → List Condition
+before_both_conditions pair c j b = Content limits c ∷ before_entry_conditions pair j b

@@ -20,8 +20,11 @@ use tables::shop::Shop;
 fn state(shop: Shop, entry: EntryNumber, f1: u64) -> Result<(), Refusal>
     ensures { (pair : Pair) → answer_number result ≡ first (state_conditions pair (CheckIn entry f1) (lent shop.entry)) }
 {
-    if shop.card.kind(entry) != EntryKind::Copy {
-        return Err(Refusal::KindOfEntry);
+    match shop.card.kind(entry) {
+        EntryKind::Copy => {}
+        EntryKind::Free | EntryKind::Full | EntryKind::Torn | EntryKind::Spent => {
+            return Err(Refusal::KindOfEntry);
+        }
     }
     let RowState::Here(facts) = ledger::state(shop.ledger, shop.card.content(entry)) else {
         return Err(Refusal::StateOfRow);

@@ -1,8 +1,9 @@
 // The refusals of delete: 5, 7 to 11, and 16.
 ghost use Rattle.std.specs.Prelude.{◌≡◌, Bool, Ok};
+ghost use Rattle.formats.specs.Entry.{is_full};
 ghost use Rattle.formats.specs.Refusal.{answer_number};
 ghost use Rattle.requests.specs.declared.request.Request.TheVariants.{Delete};
-ghost use Rattle.calls.specs.Buffers.{kind_at, is_full};
+ghost use Rattle.calls.specs.Buffers.{kind_at};
 ghost use Rattle.calls.specs.Refusal.{first};
 ghost use Rattle.calls.specs.Conditions.{state_conditions};
 ghost use Rattle.calls.specs.Perform.{refusal};

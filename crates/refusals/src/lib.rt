@@ -6,7 +6,7 @@ ghost use Rattle.std.specs.Prelude.{◌≡◌};
 ghost use Rattle.formats.specs.Refusal.{answer_number};
 ghost use Rattle.calls.specs.Refusal.{first};
 ghost use Rattle.tables.specs.Shop.{lent};
-ghost use Rattle.refusals.specs.Before.{entry_conditions, title_conditions};
+ghost use Rattle.refusals.specs.Before.{before_entry_conditions, before_both_conditions};
 
 use formats::facts;
 use formats::facts::{ContentId, EntryNumber};
@@ -27,7 +27,7 @@ pub mod register;
 #[tactic(auto, unfolding(calls::specs::Refusal::first))]
 #[inline]
 fn before_entry(pair: Pair, shop: Shop, entry: EntryNumber) -> Result<(), Refusal>
-    ensures { answer_number result ≡ first (entry_conditions pair entry.0 (lent shop.entry)) }
+    ensures { answer_number result ≡ first (before_entry_conditions pair entry.0 (lent shop.entry)) }
 {
     if !facts::is_numbered(entry.0) {
         return Err(Refusal::EntryNumber);
@@ -44,7 +44,7 @@ fn before_both(
     content: ContentId,
     entry: EntryNumber,
 ) -> Result<(), Refusal>
-    ensures { answer_number result ≡ first (title_conditions pair content.0 entry.0 (lent shop.entry)) }
+    ensures { answer_number result ≡ first (before_both_conditions pair content.0 entry.0 (lent shop.entry)) }
 {
     if !facts::is_numbered(content.0) {
         return Err(Refusal::ContentId);

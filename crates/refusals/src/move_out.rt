@@ -26,8 +26,11 @@ fn state(
 ) -> Result<(), Refusal>
     ensures { answer_number result ≡ first (state_conditions pair (MoveOut entry hash fillers) (lent shop.entry)) }
 {
-    if shop.card.kind(entry) != EntryKind::Full {
-        return Err(Refusal::KindOfEntry);
+    match shop.card.kind(entry) {
+        EntryKind::Full => {}
+        EntryKind::Free | EntryKind::Copy | EntryKind::Torn | EntryKind::Spent => {
+            return Err(Refusal::KindOfEntry);
+        }
     }
     let RowState::Away = ledger::state(shop.ledger, shop.card.content(entry)) else {
         return Err(Refusal::StateOfRow);

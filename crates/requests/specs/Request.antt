@@ -3,7 +3,7 @@ use Rattle.std.specs.Prelude.{ℕ, ◌+◌, List, [], ◌∷◌, ◌++◌, Bool,
 use Rattle.formats.specs.Answer.{Answer, done, refused}
 use Rattle.formats.specs.Facts.{fact_values, numbered, cci_passes, trigger_passes, count_passes, key_passes}
 use Rattle.requests.specs.Number.{NumberRead, Number, Refused as NoNumber, Written, NotWritten, groups, read_number, writing, written_to}
-use Rattle.formats.specs.Refusal.{unless, number_of}
+use Rattle.formats.specs.Refusal.{refused_unless, number_of}
 use Rattle.formats.specs.declared.refusal.Refusal.{Refusal}
 use Rattle.formats.specs.declared.facts.Facts.{Facts}
 use Rattle.formats.specs.declared.facts.Fillers.{Fillers}
@@ -39,7 +39,7 @@ refusal_of Any = 0
 
 -- the refusal of the value v for an argument, 0 where it is within its limit
 abbrev pub limit : Argument → ℕ → ℕ
-limit a v = unless (passes a v) (refusal_of a)
+limit a v = refused_unless (passes a v) (refusal_of a)
 
 -- "Facts are CCI, trigger, rights, permits, title key, STI key"
 abbrev pub fact_arguments : List Argument
@@ -62,7 +62,7 @@ abbrev pub kind_passes : ℕ → Bool
 kind_passes kind = leb 1 kind && leb kind 7
 
 abbrev pub kind_limit : ℕ → ℕ
-kind_limit kind = unless (kind_passes kind) 3
+kind_limit kind = refused_unless (kind_passes kind) 3
 
 -- the kind of a request, and the values of its arguments
 abbrev pub kind_of : Request → ℕ

@@ -79,23 +79,24 @@ pub fn len(x: u64) -> usize
     usize::from(LENGTHS[x.leading_zeros() as usize])
 }
 
-// Writes `x` from place `at` of `out` on, where there is room for it, and answers the place after it. What has one group or two, as
-// content IDs and entry numbers have, takes no loop.
+// Writes `x` from place `at` of `out` on, where there is room for it, and answers the place after it. One group or two, as content IDs and
+// entry numbers have, take no loop.
 pub(crate) fn store(x: u64, out: &mut [u8], at: usize) -> usize
     requires { at + length (groups x) ≤ length out.old }
     ensures place { result ≡ at + length (groups x) }
     ensures bytes { out.new ≡ put out.old at (groups x) }
 {
-    if x < 128 {
+    let groups = len(x);
+    if groups == 1 {
         out[at] = x as u8;
         return at + 1;
     }
-    if x < 128 * 128 {
+    if groups == 2 {
         out[at] = (128 + x % 128) as u8;
         out[at + 1] = (x >> 7) as u8;
         return at + 2;
     }
-    let last = at + len(x) - 1;
+    let last = at + groups - 1;
     let mut left = x;
     for i in at..last {
         out[i] = (128 + left % 128) as u8;

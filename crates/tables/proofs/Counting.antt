@@ -9,12 +9,12 @@ use lib.Dec.{eqb}
 use borrow.Author.Tests.{eq-eqb, eqb-true, le-leb}
 use Rattle.formats.specs.Half.{id_of, usable_of, flagged_with}
 use Rattle.formats.specs.Title.{cci_of}
-use Rattle.formats.specs.Entry.{kind_of}
+use Rattle.formats.specs.Entry.{kind_of, is_copy, is_full}
 use Rattle.formats.proofs.Tests.{split, both, refuted}
 use Rattle.formats.specs.Facts.{numbered}
 use Rattle.formats.proofs.facts.Laws.{numbered_range}
 use Rattle.formats.proofs.entry.Laws.{Sound, IsCopy, IsFull, of_copy, of_full, copy_beside, full_beside}
-use Rattle.calls.specs.Buffers.{is_copy, is_full, copy_of, full_with, one, total}
+use Rattle.calls.specs.Buffers.{copy_of, full_with, one, total}
 use Rattle.calls.proofs.Passed.{is_copy_lem, is_full_lem}
 use Rattle.calls.proofs.Refusals.{holds_not}
 

@@ -13,17 +13,17 @@ use lib.ListN.{length, get_or, set, replicate, length-set, length-replicate, get
 use lib.Seq.{get_or-set_same, get_or-set_other}
 use borrow.Author.Tests.{eq-eqb, ne_eqb}
 use Rattle.formats.specs.Half.{id_of}
-use Rattle.formats.specs.Entry.{kind_of}
+use Rattle.formats.specs.Entry.{kind_of, is_copy, is_full, is_spent}
 use Rattle.formats.specs.declared.entry.EntryKind.{EntryKind}
 use Rattle.formats.specs.declared.entry.EntryKind.TheVariants.{Free, Copy, Full, Torn, Spent}
 use Rattle.formats.proofs.Tests.{and_false}
 use Rattle.formats.proofs.half.Laws.{names_says}
 use Rattle.formats.proofs.entry.Laws.{of_copy, of_full, of_spent}
-use Rattle.calls.specs.Buffers.{title_at, rule_at, is_copy, is_full, copies, full_with, first_of, one, total}
+use Rattle.calls.specs.Buffers.{title_at, rule_at, copies, full_with, first_of, one, total}
 use Rattle.calls.proofs.First.{first_before, first_here, first_not_yet}
 use Rattle.tables.specs.Copies.{copy_at}
 use Rattle.tables.specs.declared.by_title.OnCard.{OnCard}
-use Rattle.tables.specs.ByTitle.{first_full, is_spent, spent_at, spent_entries, nothing, ForEach}
+use Rattle.tables.specs.ByTitle.{first_full, spent_at, spent_entries, nothing, ForEach}
 
 -- a copy or a full entry has an ID that has a place
 module _ (t r : List ℕ) {content : ℕ} (is : content ≡ id_of t) where

@@ -1,8 +1,6 @@
 -- What a card has of each title: how many copies, and the first full entry; and how many entries are spent.
-use Rattle.std.specs.Prelude.{ℕ, ◌≡◌, List, Bool, true, false, length, get_or}
-use Rattle.formats.specs.Entry.{kind_of}
-use Rattle.formats.specs.declared.entry.EntryKind.{EntryKind}
-use Rattle.formats.specs.declared.entry.EntryKind.TheVariants.{Free, Copy, Full, Torn, Spent}
+use Rattle.std.specs.Prelude.{ℕ, ◌≡◌, List, Bool, length, get_or}
+use Rattle.formats.specs.Entry.{kind_of, is_spent}
 use Rattle.calls.specs.Buffers.{title_at, rule_at, copies, full_with, first_of, one, total}
 use Rattle.tables.specs.declared.by_title.OnCard.{OnCard}
 
@@ -11,13 +9,6 @@ unfoldable pub first_full : ℕ → List ℕ → List ℕ → ℕ
 first_full c titles rules = first_of 999 (λ j. full_with c (title_at titles j) (rule_at rules j))
 
 -- W7: "a line `spent` and their number": how many entries of a card are spent
-abbrev pub is_spent : EntryKind → Bool
-is_spent Free = false
-is_spent Copy = false
-is_spent Full = false
-is_spent Torn = false
-is_spent Spent = true
-
 abbrev pub spent_at : List ℕ → List ℕ → ℕ → Bool
 spent_at titles rules j = is_spent (kind_of (title_at titles j) (rule_at rules j))
 

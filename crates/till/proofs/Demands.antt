@@ -8,8 +8,9 @@ use native.Mathlib.Omega.{arith}
 use lib.Dec.{eqb}
 use lib.ListN.{length}
 use Rattle.formats.specs.Answer.{done}
+use Rattle.formats.specs.Bytes.{Bytes}
 use Rattle.formats.specs.Part.{put}
-use Rattle.formats.specs.Refusal.{unless as limit}
+use Rattle.formats.specs.Refusal.{refused_unless as limit}
 use Rattle.requests.specs.Number.{Written, NotWritten, written_answer}
 use Rattle.requests.specs.Request.{kind_passes, schema, kind_of, request_of, written, writing_request, request_written_to}
 use Rattle.requests.specs.declared.request.Request.{Request}
@@ -30,7 +31,7 @@ use Rattle.calls.proofs.Pairs.{of_other_pair, picture_by_f1}
 use Rattle.calls.proofs.Fresh.{rows_by_number, fresh_is_ready}
 use Rattle.calls.proofs.Examples.{ten_examples, one_generation}
 use Rattle.calls.proofs.SampleRun.{sample_run, every_call_done}
-use Rattle.calls.proofs.History.Always.{history}
+use Rattle.calls.proofs.History.Always.{history, no_others}
 use Rattle.tables.proofs.Demand1.{demand_1_tables}
 use Rattle.tables.proofs.History.{formatted_history}
 use Rattle.text.proofs.Forms.{decimal_form}
@@ -49,7 +50,7 @@ writes_numbers : (kind : ℕ) (arguments out : List ℕ) → WritesNumbers kind 
 unfolding writing_numbers numbers_written_to
 writes_numbers kind arguments out =
     let x = kind_passes kind in
-    record { refused_first = first_of_all x; answers_length = tells x; same_length = same x }
+    record { refused_first = first_of_all x; answers_length = tells x; same_length = same x; stays_bytes = bytes x }
   where
     q : Request
     q = request_of kind arguments
@@ -76,6 +77,10 @@ writes_numbers kind arguments out =
     same true = whole.same_length
     same false = refl
 
+    bytes : (x : Bool) → Bytes out → Bytes (left x)
+    bytes true e = whole.stays_bytes e
+    bytes false e = e
+
 -- THE DEMANDS
 pub demands : Demands
 demands =
@@ -83,12 +88,9 @@ demands =
       first =
           record {
             calls = demand_1_calls;
-            work = work_is_done;
-            every_call = every_call_done;
             fresh = fresh_is_ready;
             rows = rows_by_number;
             register_by_ledger = register_by_ledger;
-            gone_stays = gone_stays;
             as_with_four_kinds = as_with_four_kinds;
             move_in_reports = move_in_reports;
             of_other_pair = of_other_pair;
@@ -104,6 +106,9 @@ demands =
       second =
           record {
             layout = layout;
+            work = work_is_done;
+            every_call = every_call_done;
+            gone_stays = gone_stays;
             groups = groups_of_seven;
             number_form = number_form;
             lengths_from_table = lengths_from_table;
@@ -118,6 +123,7 @@ demands =
       third =
           record {
             history = history;
+            no_others = no_others;
             formatted = formatted_history;
             served = served_history;
             previews = previews_in_lists;

@@ -1,8 +1,10 @@
 -- The three demands: where a reviewer starts. Each part is a statement about the definitions, in the file that its name is taken
 -- from, and all of them are proved (`demands`). The library's code meets the definitions by its contracts: every function equates
--- its answer, and every byte that it was lent, with one of them.
+-- its answer, and every byte that it was lent, with one of them. What the two programs print is in contracts of their own crates,
+-- `counter_printed` and `sheet_printed`, which stand above this one. The quotes are the buyer's request.
 use Rattle.std.specs.Prelude.{ℕ, ◌≡◌, length, List, [], ◌∷◌, ◌++◌}
 use Rattle.formats.specs.Answer.{done}
+use Rattle.formats.specs.Bytes.{Bytes}
 use Rattle.formats.specs.Part.{put}
 use Rattle.formats.specs.Layout.{Layout}
 use Rattle.requests.specs.Number.{written_answer}
@@ -18,7 +20,7 @@ use Rattle.calls.specs.Fresh.{RowsByNumber, FreshIsReady}
 use Rattle.calls.specs.Examples.{TenExamples, OneGeneration}
 use Rattle.calls.specs.SampleRun.{SampleRun, EveryCallDone}
 use Rattle.calls.specs.FourKinds.{AsWithFourKinds}
-use Rattle.calls.specs.History.{History}
+use Rattle.calls.specs.History.{History, NoOthers}
 use Rattle.calls.specs.Entries.{EntriesTell}
 use Rattle.calls.specs.Preview.{Demand1Preview}
 use Rattle.calls.specs.Steps.{PreviewsInLists}
@@ -42,19 +44,17 @@ pub record WritesNumbers (kind : ℕ) (arguments out : List ℕ) : Type 0 where
   pub answers_length : (written_answer (writing_numbers kind arguments out)).number ≡ 0
       → written_answer (writing_numbers kind arguments out) ≡ done (length (written (request_of kind arguments)) ∷ [])
   pub same_length : length (numbers_written_to kind arguments out) ≡ length out
+  pub stays_bytes : Bytes out → Bytes (numbers_written_to kind arguments out)
 
--- 1: "every call that meets a refusal condition gets that number, the first in the order, and no byte changes; every other call is
--- carried out and ends in bounds"
+-- 1: "Refused first: every call that meets a refusal condition .. gets that number, the first in the order of testing .., and no byte
+-- changes. Accepted then: every other call, and each one ends in bounds."
 pub record Demand1 : Type 0 where
-  -- the seven calls; that each is done exactly where the paper says, and a run in which each is
+  -- the seven calls, by their conditions; by what each needs, in the papers' words, they stand in demand 2 (`work`)
   pub calls : Demand1Calls
-  pub work : WorkIsDone
-  pub every_call : EveryCallDone
   pub fresh : FreshIsReady
   pub rows : RowsByNumber
   pub register_by_ledger : RegisterByLedger
-  pub gone_stays : GoneStays
-  -- no answer and no byte is another than with four kinds of entry
+  -- each call answers what it did with four kinds of entry
   pub as_with_four_kinds : AsWithFourKinds
   -- what a move in reports beside its answer
   pub move_in_reports : MoveInReports
@@ -74,10 +74,14 @@ pub record Demand1 : Type 0 where
   -- previews, and requests that a till gives in numbers
   pub preview : Demand1Preview
 
--- 2: "entries, tables, ledger and requests are read and written byte for byte as the papers say; each request has one written form,
--- and reading it back yields that request", and what is in the paper to compare with
+-- 2: "Entries are read and written as the SD-Audio Part, revision 0.97, lays them out, and the calls change them by the rules of
+-- document 01. Each request has one written form; reading it back yields that request.", and what is in the papers to compare with
 pub record Demand2 : Type 0 where
   pub layout : Layout
+  -- each call is done exactly where the rules say, and then changes what they say; and a run in which each is done
+  pub work : WorkIsDone
+  pub every_call : EveryCallDone
+  pub gone_stays : GoneStays
   pub groups : GroupsOfSeven
   pub number_form : NumberForm
   pub lengths_from_table : LengthsFromTable
@@ -90,11 +94,13 @@ pub record Demand2 : Type 0 where
   pub decimal_form : DecimalForm
   pub sheet_shows : SheetShows
 
--- 3: one claim about every list of calls from a fresh ledger and card; of what formatting leaves; of every stream that is served; with
--- previews between the calls, which are none, and what is committed as it was previewed; that by it the numbers on the sheet add up;
--- that each title inspects as one holder; and which entry once had which loan
+-- 3: "What follows holds for every list of register, record, check-out, check-in, move out, move in and delete calls, refused ones
+-- included, that starts from one freshly formatted ledger and card." One claim about the whole list; and beside it: of titles that were
+-- not granted in it, of what formatting leaves, of every stream that is served, with previews between the calls and of what is committed
+-- as it was previewed, of the numbers on the sheet, of what inspection tells of each title, and of which entry once had which loan
 pub record Demand3 : Type 0 where
   pub history : History
+  pub no_others : NoOthers
   pub formatted : FormattedHistory
   pub served : ServedHistory
   pub previews : PreviewsInLists

@@ -23,8 +23,8 @@ place entry = record { 0 = entry }
 
 -- "Facts are CCI, trigger, rights, permits, title key, STI key"
 abbrev pub facts : ℕ → ℕ → ℕ → ℕ → ℕ → ℕ → Facts
-facts cci trigger rights permits title_key_at sti_key_at =
-    record { cci = cci; trigger = trigger; rights = rights; permits = permits; title_key = title_key_at; sti_key = sti_key_at }
+facts cci trigger rights permits title_key sti_key =
+    record { cci = cci; trigger = trigger; rights = rights; permits = permits; title_key = title_key; sti_key = sti_key }
 
 -- "f1 to f4 are 64-bit fillers"
 abbrev pub fillers : ℕ → ℕ → ℕ → ℕ → Fillers

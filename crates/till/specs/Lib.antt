@@ -1,4 +1,3 @@
 pub mod Given
-pub mod Requests
 pub mod Told
 pub mod Demands

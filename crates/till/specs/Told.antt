@@ -1,4 +1,4 @@
--- The places that a till lends for what is told: by tally and by inspection.
+-- The places that a till lends for numbers: for what tally and inspection tell, and for the count of bytes that were read or written.
 use Rattle.std.specs.Prelude.{ℕ, List, cond, get_or, eqb}
 use Rattle.formats.specs.Answer.{Answer}
 use Rattle.formats.specs.Part.{part}

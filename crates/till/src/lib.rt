@@ -27,7 +27,6 @@ ghost use Rattle.requests.specs.Number.{written_answer};
 ghost use Rattle.requests.specs.Request.{read_request, request_answer};
 ghost use Rattle.till.specs.Demands.{Demands};
 ghost use Rattle.requests.specs.Values.{kind_after, values_after, writing_numbers, numbers_written_to};
-ghost use Rattle.till.specs.Requests.{used_after, count_after};
 
 use crate::given::CounterRequest;
 use closing_sheet::sheet;
@@ -481,8 +480,8 @@ pub extern "C" fn counter_sheet(
         (buffers_of ledger.now titles.now rules.now) text.old)).number }
     ensures written { text.new ≡ sheet_written_to (pair_of pair)
         (buffers_of ledger.now titles.now rules.now) text.old }
-    ensures used_told { used.new ≡ count_after (sheet_writing (pair_of pair)
-        (buffers_of ledger.now titles.now rules.now) text.old) used.old }
+    ensures used_told { used.new ≡ value_after 0 (written_answer (sheet_writing (pair_of pair)
+        (buffers_of ledger.now titles.now rules.now) text.old)) used.old }
 {
     let shop = Shop::new(ledger, titles, rules);
     tell(sheet::write(pair_of(pair), shop, text), used)
@@ -499,7 +498,7 @@ pub extern "C" fn counter_read_request(
     ensures answer { result ≡ (request_answer (read_request bytes.now)).number }
     ensures kind_told { kind.new ≡ kind_after (read_request bytes.now) kind.old }
     ensures arguments_told { arguments.new ≡ values_after (read_request bytes.now) arguments.old }
-    ensures used_told { used.new ≡ used_after (read_request bytes.now) used.old }
+    ensures used_told { used.new ≡ value_after 0 (request_answer (read_request bytes.now)) used.old }
 {
     tell(request::read_numbers(bytes, kind, arguments), used)
 }
@@ -515,7 +514,7 @@ pub extern "C" fn counter_write_request(
     ensures answer { result ≡ (written_answer (writing_numbers kind arguments.now bytes.old)).number }
     ensures written { bytes.new ≡ numbers_written_to kind arguments.now bytes.old }
     ensures used_told { used.new
-        ≡ count_after (writing_numbers kind arguments.now bytes.old) used.old }
+        ≡ value_after 0 (written_answer (writing_numbers kind arguments.now bytes.old)) used.old }
 {
     tell(request::write_numbers(kind, arguments, bytes), used)
 }

@@ -4,12 +4,12 @@ use Prim.Native.Nat.{ℕ, ◌+◌, ◌≤◌}
 use mathlib.Core.Path.{◌≡◌, refl, ap, sym, subst, ◌∙◌}
 use mathlib.Core.Logic.{◌≢◌}
 use mathlib.Core.List.{List, [], ◌∷◌}
-use mathlib.Core.Option.{some}
 use mathlib.Core.Bool.{Bool, true, false, cond, ◌&&◌}
 use native.Mathlib.Omega.{arith}
 use native.Mathlib.Decide.{ℕ_discrete}
 use lib.Dec.{leb}
 use borrow.Author.Tests.{leb-true, ne_eqb}
+use Rattle.std.specs.Prelude.{Some, None}
 use Rattle.formats.specs.declared.head.Pair.{Pair}
 use Rattle.formats.specs.Head.{rows_of}
 use Rattle.formats.specs.Row.{state_of}
@@ -21,10 +21,10 @@ use Rattle.formats.specs.declared.row.RowState.TheVariants.{Empty, Here, Away, G
 use Rattle.formats.proofs.Tests.{split}
 use Rattle.formats.proofs.row.Laws.{state_zeros}
 use Rattle.formats.proofs.head.Laws.{fresh_rows, fresh_row}
-use Rattle.calls.specs.Buffers.{Buffers, row_at, state_in, state_at, kind_at, content_at, facts_at, cci_at, is_here, one, fresh, Within}
+use Rattle.calls.specs.Buffers.{Buffers, row_at, state_in, state_at, kind_at, content_at, facts_at, cci_at, is_here, one, fresh, Within, no_facts}
 use Rattle.calls.specs.Effect.{copy_cci}
 use Rattle.calls.specs.Perform.{perform, AreBytes}
-use Rattle.calls.specs.History.{Answered, Log, last_at, Action, actions, times, grant, Run, next, start, run, holders, Holder, in_row, in_entry, TitleClaim, History}
+use Rattle.calls.specs.History.{Answered, Log, last_at, Action, actions, times, grant, Run, next, start, run, holders, Holder, in_row, in_entry, TitleClaim, History, granted, checked_out, checked_in, moved, copy_deleted, holder_deleted, NoHolder, NoOthers}
 use Rattle.calls.proofs.Refusals.{unchanged}
 use Rattle.calls.proofs.Named.{Heads}
 use Rattle.calls.proofs.Passed.{needs_met}
@@ -37,16 +37,16 @@ use Rattle.calls.proofs.History.Titles.{Place, no_title, copy, copy_in, full_in,
 use Rattle.calls.proofs.History.Step.{At, Invariant, kept, copies_in, fulls_in, copy_at_counts, holder_found}
 use Rattle.calls.proofs.History.Calls.{change}
 
+-- a row that is empty, or none
+pub data Blank : RowState → Type 0 where
+  empty : Blank Empty
+  no_row : Blank NoState
+
 -- THE START
 
 module _ (pair : Pair) (rows application card_application : ℕ) (low : 1 ≤ rows) (high : rows ≤ 999) where
   abbrev b₀ : Buffers
   b₀ = fresh pair rows application card_application
-
-  -- every row is empty, or none
-  data Blank : RowState → Type 0 where
-    empty : Blank Empty
-    no_row : Blank NoState
 
   blank : (c : ℕ) → Blank (state_at b₀ c)
   unfolding state_in
@@ -162,7 +162,7 @@ heads_stay pair (k ∷ ks) w h = heads_stay pair ks (next pair k w) (each_head_k
 
 module _ (c : ℕ) (f : Facts) (acts : List Action) (b : Buffers) where
   from_accounts : (h : Facts) → Accounts acts h (copies_in 999 c (view b)) → ((x : ℕ) → At 999 (view b) (copy c x) → x ≡ copy_cci h.cci)
-      → holders c b ≡ 1 → Holder c b h → grant acts ≡ some f → TitleClaim c f acts b
+      → holders c b ≡ 1 → Holder c b h → grant acts ≡ Some f → TitleClaim c f acts b
   from_accounts h accounts cci_of_copies one_holder at e =
       let i : accounts.given ≡ f = cc in
       let n = copies_seen c b in
@@ -188,7 +188,7 @@ module _ (c : ℕ) (f : Facts) (acts : List Action) (b : Buffers) where
   unfolding holders
   holder_count r m row fulls = rw (row, fulls_seen c b, fulls)
 
-  title_claim : (r : RowState) → state_at b c ≡ r → TitleInvariant c acts (copies_in 999 c (view b)) (fulls_in 999 c (view b)) (At 999 (view b)) r → grant acts ≡ some f → TitleClaim c f acts b
+  title_claim : (r : RowState) → state_at b c ≡ r → TitleInvariant c acts (copies_in 999 c (view b)) (fulls_in 999 c (view b)) (At 999 (view b)) r → grant acts ≡ Some f → TitleClaim c f acts b
   title_claim Empty row st e = let z : ◌≡◌ {A = ℕ} 0 1 = cc in absurd (omega arith)
   title_claim (Here h) row st e = from_accounts h st.accounts st.cci_of_copies (holder_count (Here h) 0 row st.no_full) (in_row row) e
   title_claim Away row st e =
@@ -204,6 +204,41 @@ module _ (c : ℕ) (f : Facts) (acts : List Action) (b : Buffers) where
         if_deleted = λ d. record { no_holder = holder_count Gone 0 row st.no_full; no_copy = copies_seen c b ∙ st.no_copy };
       }
   title_claim NoState row st e = let z : ◌≡◌ {A = ℕ} 0 1 = cc in absurd (omega arith)
+
+-- WHAT IT SAYS OF A TITLE THAT WAS NOT GRANTED
+
+grant_none : (acts : List Action) → grant acts ≡ None → (f : Facts) → times (granted f) acts ≡ 0
+unfolding grant times
+grant_none [] e f = refl
+grant_none (granted g ∷ acts) e f = let z : ◌≡◌ {A = ℕ} 0 1 = cc in omega arith
+grant_none (checked_out ∷ acts) e f = omega (arith, grant_none acts e f)
+grant_none (checked_in ∷ acts) e f = omega (arith, grant_none acts e f)
+grant_none (moved ∷ acts) e f = omega (arith, grant_none acts e f)
+grant_none (copy_deleted ∷ acts) e f = omega (arith, grant_none acts e f)
+grant_none (holder_deleted ∷ acts) e f = omega (arith, grant_none acts e f)
+
+-- its row is blank, and nothing of it is on the card
+pub record Unknown (c : ℕ) (b : Buffers) (r : RowState) : Type 0 where
+  pub row : Blank r
+  pub nothing : NoHolder c b
+
+module _ (c : ℕ) (acts : List Action) (b : Buffers) where
+  unheld : (r : RowState) → one (is_here r) ≡ 0 → state_at b c ≡ r → NotGranted acts (copies_in 999 c (view b)) (fulls_in 999 c (view b)) → NoHolder c b
+  unheld r not_here row st =
+      let n : holders c b ≡ one (is_here r) + 0 = holder_count c no_facts acts b r 0 row st.no_full in
+      record { no_holder = omega arith; no_copy = copies_seen c b ∙ st.no_copy }
+
+  pub unknown : grant acts ≡ None → (r : RowState) → state_at b c ≡ r
+      → TitleInvariant c acts (copies_in 999 c (view b)) (fulls_in 999 c (view b)) (At 999 (view b)) r → Unknown c b r
+  unknown e Empty row st = record { row = empty; nothing = unheld Empty refl row st }
+  unknown e (Here h) row st = let i = st.accounts.is_grant in let z : ◌≡◌ {A = ℕ} 0 1 = cc in absurd (omega arith)
+  unknown e Away row st =
+      let y = holder_found 999 c (view b) (omega (arith, st.one_full)) in
+      let i = (st.accounts y.0 y.1).is_grant in
+      let z : ◌≡◌ {A = ℕ} 0 1 = cc in
+      absurd (omega arith)
+  unknown e Gone row st = absurd (omega (arith, st.once no_facts, grant_none acts e no_facts))
+  unknown e NoState row st = record { row = no_row; nothing = unheld NoState refl row st }
 
 -- after every list
 pub sound : (pair : Pair) (rows application card_application : ℕ) → 1 ≤ rows → rows ≤ 999 → (ks : List Request) → Sound (run pair ks (start pair rows application card_application))
@@ -225,3 +260,9 @@ history pair rows application card_application low high ks c f e =
     let w = run pair ks (start pair rows application card_application) in
     let s = sound pair rows application card_application low high ks in
     title_claim c f (actions c w.log) w.buffers (state_at w.buffers c) refl (s.inv.titles c) e
+
+pub no_others : NoOthers
+no_others pair rows application card_application low high ks c e =
+    let w = run pair ks (start pair rows application card_application) in
+    let s = sound pair rows application card_application low high ks in
+    (unknown c (actions c w.log) w.buffers e (state_at w.buffers c) refl (s.inv.titles c)).nothing

@@ -4,10 +4,11 @@ use Prim.Native.Nat.{ℕ}
 use mathlib.Core.Path.{◌≡◌, refl, sym, ap, ap₂, subst, ◌∙◌}
 use mathlib.Core.Logic.{◌≢◌, inl, inr}
 use mathlib.Core.List.{List}
-use mathlib.Core.Option.{none, some}
 use mathlib.Core.Bool.{Bool, true, false, cond}
 use native.Mathlib.Omega.{arith}
 use borrow.Author.Tests.{ne_eqb}
+use Rattle.std.specs.Prelude.{None, Some}
+use Rattle.formats.specs.Entry.{is_full}
 use Rattle.formats.specs.declared.head.Pair.{Pair}
 use Rattle.formats.specs.Head.{LedgerHead}
 use Rattle.formats.specs.declared.facts.Facts.{Facts}
@@ -18,7 +19,7 @@ use Rattle.formats.specs.declared.row.RowState.{RowState}
 use Rattle.formats.specs.declared.row.RowState.TheVariants.{Here}
 use Rattle.formats.proofs.facts.Laws.{facts_same, permitting}
 use Rattle.calls.specs.Count.{one_less}
-use Rattle.calls.specs.Buffers.{Buffers, title_at, rule_at, state_at, kind_at, content_at, facts_at, is_full, Within}
+use Rattle.calls.specs.Buffers.{Buffers, title_at, rule_at, state_at, kind_at, content_at, facts_at, Within}
 use Rattle.calls.specs.Effect.{after_move}
 use Rattle.calls.specs.Perform.{perform, AreBytes}
 use Rattle.calls.specs.Untouched.{row_written, title_written}
@@ -41,10 +42,10 @@ same_moved : {f g : Facts} → Recounted f (one_less f.rights) f.permits g → g
 same_moved r = facts_same r.cci r.trigger r.rights_are r.permits_are r.title_key r.sti_key
 
 -- another row or entry than the one written
-other_than : {c d : ℕ} → d ≢ c → some c ≢ some d
+other_than : {c d : ℕ} → d ≢ c → Some c ≢ Some d
 other_than {c} {d} ne e = let same : c ≡ d = cc in ne (sym same)
 
-other_deleted : (x : Bool) {c d : ℕ} → d ≢ c → cond x (some c) none ≢ some d
+other_deleted : (x : Bool) {c d : ℕ} → d ≢ c → cond x (Some c) None ≢ Some d
 other_deleted true ne = other_than ne
 other_deleted false ne = λ e. let z : ◌≡◌ {A = ℕ} 0 1 = cc in omega arith
 
@@ -57,18 +58,18 @@ module _ (pair : Pair) (log : Log) (b : Buffers) (inv : Invariant 999 log (view 
     left : Named pair k b → Left pair k b after
     left n = (work_is_done pair k b).leaves are_bytes (unnamed pair k b n)
 
-    rows_else : LedgerHead b.ledger → (c : ℕ) → ((d : ℕ) → d ≢ c → row_written k b ≢ some d) → (d : ℕ) → d ≢ c → state_at after d ≡ state_at b d
+    rows_else : LedgerHead b.ledger → (c : ℕ) → ((d : ℕ) → d ≢ c → row_written k b ≢ Some d) → (d : ℕ) → d ≢ c → state_at after d ≡ state_at b d
     rows_else head c other d ne = row_else (untouched pair k b).rows head d (other d ne)
 
     -- from there to a change
     wrote : {c j : ℕ} {r : RowState} {q : Place} (a : Action) → OnCard b j → state_at after c ≡ r → (view after).places j ≡ q
-        → ((d : ℕ) → d ≢ c → row_written k b ≢ some d) → title_written k ≡ some j
+        → ((d : ℕ) → d ≢ c → row_written k b ≢ Some d) → title_written k ≡ Some j
         → event k log ≡ record { title = c; action = a }
         → TitleStep c (copies_in 999 c (view b)) (At 999 (view b)) a (state_at b c) ((view b).places j) r q
         → Agree q (puts k j (last_at j log)) → ((i : ℕ) → i ≢ j → puts k i (last_at i log) ≡ last_at i log)
         → Change 999 k log (view b) (view after)
     wrote {c} {j} a o row place other written e t here elsewhere =
-        let others : (i : ℕ) → i ≢ j → title_written k ≢ some i = λ i ne. subst (λ x. x ≢ some i) (sym written) (other_than ne) in
+        let others : (i : ℕ) → i ≢ j → title_written k ≢ Some i = λ i ne. subst (λ x. x ≢ Some i) (sym written) (other_than ne) in
         record {
           title = c;
           place = j;
@@ -144,7 +145,7 @@ module _ (pair : Pair) (log : Log) (b : Buffers) (inv : Invariant 999 log (view 
   change (Delete j f) n =
       let k = Delete j f in
       let l = left k n in
-      let other : (d : ℕ) → d ≢ content_at b j.0 → row_written k b ≢ some d = λ d ne. other_deleted (is_full (kind_at b j.0)) ne in
+      let other : (d : ℕ) → d ≢ content_at b j.0 → row_written k b ≢ Some d = λ d ne. other_deleted (is_full (kind_at b j.0)) ne in
       elim n.deletable [
         | deletes_copy kind ↦
             let it = l.of_copy kind in

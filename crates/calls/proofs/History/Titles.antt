@@ -5,11 +5,11 @@ use Prim.Native.Nat.{ℕ, ◌+◌}
 use mathlib.Core.Path.{◌≡◌, refl, sym, ap, subst, ◌∙◌}
 use mathlib.Core.Logic.{◌≢◌, ◌⊎◌, inl, inr}
 use mathlib.Core.List.{List, ◌∷◌}
-use mathlib.Core.Option.{none, some}
 use mathlib.Core.Bool.{Bool, true, false, true≢false}
 use native.Mathlib.Omega.{arith}
 use lib.Dec.{eqb}
 use borrow.Author.Tests.{eq-eqb, ne_eqb}
+use Rattle.std.specs.Prelude.{None, Some}
 use Rattle.formats.specs.declared.facts.Facts.{Facts}
 use Rattle.formats.specs.declared.row.RowState.{RowState}
 use Rattle.formats.specs.declared.row.RowState.TheVariants.{Empty, Here, Away, Gone, NoState}
@@ -67,7 +67,7 @@ refund {l} a e =
 -- what the actions acts, with n copies out, say of the holder's facts h
 pub record Accounts (acts : List Action) (h : Facts) (n : ℕ) : Type 0 where
   pub given : Facts
-  pub is_grant : grant acts ≡ some given
+  pub is_grant : grant acts ≡ Some given
   pub once : (f : Facts) → times (granted f) acts ≡ 1
   pub cci : h.cci ≡ given.cci
   pub title_key : h.title_key ≡ given.title_key
@@ -80,7 +80,7 @@ pub record Accounts (acts : List Action) (h : Facts) (n : ℕ) : Type 0 where
 -- the title was never granted
 pub record NotGranted (acts : List Action) (n m : ℕ) : Type 0 where
   pub no_action : (d : Action) → times d acts ≡ 0
-  pub no_grant : grant acts ≡ none
+  pub no_grant : grant acts ≡ None
   pub no_copy : n ≡ 0
   pub no_full : m ≡ 0
 

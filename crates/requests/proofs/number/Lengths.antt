@@ -13,7 +13,7 @@ use Rattle.requests.specs.Number.{groups}
 use Rattle.requests.specs.declared.number.TheConstants.{LENGTHS}
 use Rattle.requests.proofs.number.Laws.{groups_last, groups_more}
 
--- a number has at least one group, only one below 128, and two below 128 * 128
+-- a number has at least one group; one that has only one is below 128
 pub groups_some : (n : ℕ) → 0 < length (groups n)
 groups_some n =
     elim (dec_lt n 128) [
@@ -35,8 +35,12 @@ more_groups n h =
       | no b ↦ omega arith
     ]
 
-pub two_groups : (n : ℕ) → 128 ≤ n → n < 128 * 128 → groups n ≡ (128 + n % 128) ∷ (n / 128) ∷ []
-two_groups n big small = groups_more n big ∙ ap (λ (l : List ℕ). (128 + n % 128) ∷ l) (groups_last (n / 128) (omega arith))
+-- of two groups the second is the last
+pub second_group : (n : ℕ) → length (groups n) ≡ 2 → n / 128 < 128
+second_group n h = only_group (n / 128) (omega (arith, h, ap length (groups_more n (more_groups n (omega (arith, h))))))
+
+pub two_groups : (n : ℕ) → length (groups n) ≡ 2 → groups n ≡ (128 + n % 128) ∷ (n / 128) ∷ []
+two_groups n h = groups_more n (more_groups n (omega (arith, h))) ∙ ap (λ (l : List ℕ). (128 + n % 128) ∷ l) (groups_last (n / 128) (second_group n h))
 
 -- a number below 128 ^ (k + 1) has at most k + 1 groups
 pub groups_within : (k n : ℕ) → n < 128 ^ suc k → length (groups n) ≤ suc k

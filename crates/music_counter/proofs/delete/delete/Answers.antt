@@ -1,7 +1,8 @@
 -- `music_counter::delete::delete` meets its contract: refused, or done.
 -- Assumes nothing.
 use mathlib.Core.Path.{refl, ap, ◌∙◌}
-use Rattle.calls.specs.Buffers.{Buffers, kind_at, is_full}
+use Rattle.formats.specs.Entry.{is_full}
+use Rattle.calls.specs.Buffers.{Buffers, kind_at}
 use Rattle.music_counter.proofs.Answers.{handed, accepted, carried_out}
 use Rattle.music_counter.proofs.delete.delete.Goals as goal
 
