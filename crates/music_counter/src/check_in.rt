@@ -10,7 +10,7 @@ use calls::count;
 use formats::facts::EntryNumber;
 use formats::head::Pair;
 use formats::refusal::Refusal;
-use formats::{half, table};
+use formats::{half, refusal, table};
 use tables::ledger;
 use tables::shop::Shop;
 
@@ -39,7 +39,12 @@ pub fn check_in(
         (buffers_of ledger.new titles.new rules.now) }
 {
     let shop = Shop::new(ledger, titles, rules);
-    refusals::check_in::refusal(pair, shop, entry, f1)?;
+    let found = refusals::check_in::refusal(pair, shop, entry, f1);
+    // A test with a name, and no `?`: so an edit can turn it round, and the contract refuses it.
+    let is_refused = refusal::number(found) != 0;
+    if is_refused {
+        return found;
+    }
     apply(ledger, titles, entry, f1);
     Ok(())
 }

@@ -39,7 +39,11 @@ pub fn check_out(
         (buffers_of ledger.new titles.new rules.now) }
 {
     let shop = Shop::new(ledger, titles, rules);
-    refusals::check_out::refusal(pair, shop, content, entry)?;
+    let found = refusals::check_out::refusal(pair, shop, content, entry);
+    // No `?`, of which no edit can spoil the answer.
+    if found.is_err() {
+        return found;
+    }
     apply(ledger, titles, content, entry);
     Ok(())
 }

@@ -5,7 +5,7 @@ ghost use Rattle.formats.specs.Part.{put};
 ghost use Rattle.formats.specs.Refusal.{answer_number, answer_of};
 ghost use Rattle.requests.specs.Number.{count_values, written_answer};
 ghost use Rattle.requests.specs.Request.{limit, kind_limit, kind_of, schema, facts_from, fillers_from, request_of, first_limit};
-ghost use Rattle.requests.specs.Request.{read_request, request_values, request_answer, reading_of};
+ghost use Rattle.requests.specs.Request.{written, limit_of, read_request, request_values, request_answer, reading_of};
 ghost use Rattle.requests.specs.Request.{remainder_of, writing_request, request_written_to};
 ghost use Rattle.requests.specs.Values.{Holds, length_answer, kind_after, values_after};
 ghost use Rattle.requests.specs.Values.{written_numbers, writing_numbers, numbers_written_to};
@@ -105,9 +105,9 @@ impl Argument {
 // A request's kind, and the values of its arguments in their order with zeros after them. The kind is its number, which
 // is what is written and read and what C has; the functions that take one take any number, and an enum of seven would ask more.
 #[derive(Clone, Copy)]
-struct Numbers {
-    kind: u64,
-    values: [u64; 9],
+pub struct Numbers {
+    pub kind: u64,
+    pub values: [u64; 9],
 }
 
 // No request is longer than a move out of an entry number of two bytes and five numbers of ten.
@@ -138,7 +138,7 @@ fn schema(kind: u64) -> &'static [Argument]
 }
 
 // Refuses a kind that is not 1 to 7.
-fn kind_limit(kind: u64) -> Result<(), Refusal>
+pub fn kind_limit(kind: u64) -> Result<(), Refusal>
     ensures { answer_number result ≡ kind_limit kind }
 {
     if (1..=7).contains(&kind) {
@@ -184,7 +184,7 @@ fn record_values(content: ContentId, entry: EntryNumber, facts: Facts, hash: u64
 
 // A request as numbers.
 #[tactic(auto, unfolding(crate::specs::Values::filled))]
-fn numbers_of(request: Request) -> Numbers
+pub fn numbers_of(request: Request) -> Numbers
     ensures { Holds request result.kind result.values }
 {
     let (kind, values) = match request {
@@ -243,7 +243,7 @@ fn fillers_from(v: [u64; 9], i: usize) -> Fillers
 // The request of a kind from 1 to 7 with these values, of which it takes as many as the kind has arguments. Their limits are
 // not tested here.
 #[tactic(auto, unfolding(crate::specs::Request::request_of))]
-fn request_of(kind: u64, v: [u64; 9]) -> Request
+pub fn request_of(kind: u64, v: [u64; 9]) -> Request
     ensures { result ≡ request_of kind v }
 {
     match kind {
@@ -343,7 +343,7 @@ pub fn remainder(s: &[u8], found: Result<Read<Request>, Refusal>) -> &[u8]
 }
 
 // Refuses values of which one is past its argument's limit, with the number of the first: 4 to 6.
-fn limit(kind: u64, values: &[u64; 9]) -> Result<(), Refusal>
+fn first_limit(kind: u64, values: &[u64; 9]) -> Result<(), Refusal>
     ensures { answer_number result ≡ first_limit (schema kind) values.now }
 {
     for (argument, value) in schema(kind).iter().zip(values) {
@@ -360,7 +360,7 @@ fn arguments(kind: u64, values: &[u64; 9]) -> &[u64]
 }
 
 // How many bytes a kind and its values are written in.
-fn len(kind: u64, values: &[u64; 9]) -> usize
+fn written_len(kind: u64, values: &[u64; 9]) -> usize
     ensures { result ≡ length (written_numbers kind values.now) }
 {
     let mut n = number::len(kind);
@@ -377,7 +377,7 @@ fn fits(kind: u64, values: &[u64; 9], room: usize) -> bool
     requires values_pass { first_limit (schema kind) values.now ≡ 0 }
     ensures { result ≡ leb (length (written_numbers kind values.now)) room }
 {
-    LONGEST <= room || len(kind, values) <= room
+    LONGEST <= room || written_len(kind, values) <= room
 }
 
 // Writes a kind and its values at the front of `out`, where there is room for them, and answers the count of their bytes.
@@ -400,11 +400,27 @@ pub fn write_numbers(kind: u64, values: &[u64; 9], out: &mut [u8]) -> Result<usi
     ensures bytes { out.new ≡ numbers_written_to kind values.now out.old }
 {
     kind_limit(kind)?;
-    limit(kind, values)?;
+    first_limit(kind, values)?;
     if !fits(kind, values, out.len()) {
         return Err(Refusal::TooShort);
     }
     Ok(store(kind, values, out))
+}
+
+// Refuses a request of which an argument is past its limit, with the number of the first: 4 to 6. Its kind is one of the seven.
+pub fn limit(request: Request) -> Result<(), Refusal>
+    ensures { answer_number result ≡ limit_of request }
+{
+    let numbers = numbers_of(request);
+    first_limit(numbers.kind, &numbers.values)
+}
+
+// How many bytes a request is written in.
+pub fn len(request: Request) -> usize
+    ensures { result ≡ length (written request) }
+{
+    let numbers = numbers_of(request);
+    written_len(numbers.kind, &numbers.values)
 }
 
 // Writes a request at the front of `out`; where an argument is past its limit or it does not fit, changes nothing and refuses.

@@ -1,8 +1,8 @@
 -- The laws of an entry's kind: one for each way to it, what a kind says of the halves, and what writing and wiping make of them.
 -- Assumes nothing.
 use Prim.Native.Nat.{ℕ, ◌^◌, ◌≤◌, ◌<◌}
-use mathlib.Core.Path.{◌≡◌, refl, sym, ap₂, ◌∙◌}
-use mathlib.Core.List.{List}
+use mathlib.Core.Path.{◌≡◌, refl, sym, ap, ap₂, ◌∙◌}
+use mathlib.Core.List.{List, []}
 use mathlib.Core.Logic.{◌⊎◌, ⊎_elim}
 use mathlib.Core.Bool.{Bool, true, false, not, ◌&&◌, ◌||◌, cond, true≢false}
 use native.Mathlib.Omega.{arith}
@@ -11,6 +11,7 @@ use lib.Dec.{ltb, eqb}
 use lib.ListN.{length, replicate}
 use borrow.Author.Tests.{lt-ltb, le-ltb, eq-eqb, ne_eqb}
 use Rattle.formats.specs.Bytes.{Bytes}
+use Rattle.formats.specs.Answer.{Answer, case}
 use Rattle.formats.specs.Half.{usable_of, id_of, names_spent, wiped}
 use Rattle.formats.specs.Title.{cci_of, title_half}
 use Rattle.formats.specs.Entry.{kind_by, kind_of, is_vacant, entry_facts}
@@ -24,6 +25,30 @@ use Rattle.formats.proofs.title.Laws.{title_written_lem, title_cci}
 use Rattle.formats.proofs.rule.Laws.{rule_written_lem, rule_trigger, rule_rights, rule_permits, rule_wiped}
 use Rattle.formats.proofs.field.Laws.{number_below}
 use Rattle.formats.proofs.facts.Laws.{Ranges, facts_same}
+
+-- the kinds numbered from 0 in the papers' order, "free .. copy .. full .. torn" and "a fifth, spent", without values
+unfoldable pub kind_answer : EntryKind → Answer
+kind_answer Free = case 0 []
+kind_answer Copy = case 1 []
+kind_answer Full = case 2 []
+kind_answer Torn = case 3 []
+kind_answer Spent = case 4 []
+
+-- a kind back from its number
+kind_from : ℕ → EntryKind
+kind_from n = cond (eqb n 0) Free (cond (eqb n 1) Copy (cond (eqb n 2) Full (cond (eqb n 3) Torn Spent)))
+
+kind_back : (k : EntryKind) → kind_from (kind_answer k).number ≡ k
+unfolding kind_answer kind_from
+kind_back Free = refl
+kind_back Copy = refl
+kind_back Full = refl
+kind_back Torn = refl
+kind_back Spent = refl
+
+-- kinds with the same answer are the same
+pub same_kind : {x y : EntryKind} → kind_answer x ≡ kind_answer y → x ≡ y
+same_kind {x} {y} e = sym (kind_back x) ∙ ap (λ (a : Answer). kind_from a.number) e ∙ kind_back y
 
 torn_anyway : (b : Bool) → cond b Torn Torn ≡ Torn
 torn_anyway true = refl

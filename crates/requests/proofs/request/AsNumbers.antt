@@ -7,10 +7,11 @@ use lib.Dec.{eqb}
 use Rattle.formats.specs.Answer.{Answer, done, refused}
 use Rattle.formats.specs.Part.{put}
 use Rattle.requests.specs.Number.{written_answer}
-use Rattle.requests.specs.Request.{limit, kind_limit, schema, request_of, kind_of, values_of, written, first_limit, limit_of, writing_request, request_written_to, RequestRead, Read, Refused, request_answer}
-use Rattle.requests.specs.Values.{Holds, length_answer, kind_after, values_after, written_numbers, writing_numbers, numbers_written_to}
+use Rattle.requests.specs.Request.{limit, kind_limit, schema, request_of, kind_of, values_of, numbers, written, first_limit, limit_of, writing_request, request_written_to, RequestRead, Read, Refused, request_answer}
+use Rattle.requests.specs.Values.{filled, Holds, length_answer, kind_after, values_after, written_numbers, writing_numbers, numbers_written_to}
 use Rattle.requests.specs.declared.request.Argument.{Argument}
 use Rattle.requests.specs.declared.request.Request.{Request}
+use Rattle.requests.specs.declared.request.Request.TheVariants.{Register, Record, CheckOut, CheckIn, MoveOut, MoveIn, Delete}
 use Rattle.requests.proofs.number.Laws.{valued}
 use Rattle.requests.proofs.request.Laws.{made, kind_passes_lem, request_again}
 use Rattle.requests.proofs.request.Reading.{filled_request}
@@ -64,6 +65,28 @@ held_writes {q} {k} h out =
     let passes : kind_limit k ≡ 0 = ap kind_limit h.kind_is ∙ kind_passes_lem q in
     let t = eq-eqb (kind_limit k) 0 passes in
     (simp t (ap (λ (p : Request). writing_request p out) (held_again h)), simp t (ap (λ (p : Request). request_written_to p out) (held_again h)))
+
+-- and the zeros count for nothing: its first limit is theirs, and so are the bytes that it is written in
+without_zeros : (q : Request) → take (length (schema (kind_of q))) (filled 9 (values_of q)) ≡ values_of q
+unfolding filled schema
+without_zeros (Register c f) = refl
+without_zeros (Record c j f h) = refl
+without_zeros (CheckOut c j) = refl
+without_zeros (CheckIn j f) = refl
+without_zeros (MoveOut j h f) = refl
+without_zeros (MoveIn c j h) = refl
+without_zeros (Delete j f) = refl
+
+module _ {q : Request} {k : ℕ} {vs : List ℕ} (h : Holds q k vs) where
+  pub held_limit : first_limit (schema k) vs ≡ limit_of q
+  unfolding limit_of
+  held_limit =
+      rw (h.kind_is, h.values_are)
+      (sym (limits_first (schema (kind_of q)) (filled 9 (values_of q))) ∙ ap (first_limit (schema (kind_of q))) (without_zeros q))
+
+  pub held_written : written_numbers k vs ≡ written q
+  unfolding written_numbers written
+  held_written = rw (h.kind_is, h.values_are) (ap (λ (ws : List ℕ). numbers (kind_of q ∷ ws)) (without_zeros q))
 
 -- reading a request into places for its numbers and then making it of them is reading it
 pub made_from : {n k : ℕ} {vs : List ℕ} (k₀ : ℕ) (vs₀ : List ℕ) (r : RequestRead) → done (n ∷ []) ≡ length_answer r → k ≡ kind_after r k₀ → vs ≡ values_after r vs₀

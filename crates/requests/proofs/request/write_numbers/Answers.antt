@@ -19,24 +19,24 @@ returns-in_err-kind_limit c =
     let e : answer_of count_values c.from_residual.result ≡ refused (number_of w) = search rules in
     record { answer = e ∙ p.0; bytes = p.1 }
 
-pub returns-in_err-limit : goal.returns-in_err-limit
-returns-in_err-limit c =
-    let w = c.in_err-limit.field-0.0 in
+pub returns-in_err-first_limit : goal.returns-in_err-first_limit
+returns-in_err-first_limit c =
+    let w = c.in_err-first_limit.field-0.0 in
     let nine : length (schema c.args.kind) ≤ length c.args.values.now = omega (arith, schema_size c.args.kind) in
-    let p = value_past c.args.kind c.args.values.now (sym c.in_ok-kind_limit.ensures) nine c.args.out.now c.in_err-limit.ensures (λ z. omega (arith, (numbered w).from)) in
-    let e : answer_of count_values c.from_residual-in_err-limit.result ≡ refused (number_of w) = search rules in
+    let p = value_past c.args.kind c.args.values.now (sym c.in_ok-kind_limit.ensures) nine c.args.out.now c.in_err-first_limit.ensures (λ z. omega (arith, (numbered w).from)) in
+    let e : answer_of count_values c.from_residual-in_err-first_limit.result ≡ refused (number_of w) = search rules in
     record { answer = e ∙ p.0; bytes = p.1 }
 
 pub returns-then-not-fits : goal.returns-then-not-fits
 returns-then-not-fits c =
     let nine : length (schema c.args.kind) ≤ length c.args.values.now = omega (arith, schema_size c.args.kind) in
     let short : length c.args.out.now < length (written_numbers c.args.kind c.args.values.now) = omega (arith, leb-false _ _ (sym c.if-not-fits.ensures)) in
-    let p = numbers_no_room c.args.kind c.args.values.now (sym c.in_ok-kind_limit.ensures) nine c.args.out.now (sym c.in_ok-limit.ensures) short in
+    let p = numbers_no_room c.args.kind c.args.values.now (sym c.in_ok-kind_limit.ensures) nine c.args.out.now (sym c.in_ok-first_limit.ensures) short in
     record { answer = p.0; bytes = p.1 }
 
 pub returns : goal.returns
 returns c =
     let nine : length (schema c.args.kind) ≤ length c.args.values.now = omega (arith, schema_size c.args.kind) in
     let room : length (written_numbers c.args.kind c.args.values.now) ≤ length c.args.out.now = leb-true _ _ (sym c.if-not-fits.ensures) in
-    let p = numbers_all_written c.args.kind c.args.values.now (sym c.in_ok-kind_limit.ensures) nine c.args.out.now (sym c.in_ok-limit.ensures) c.store.ensures.count room c.store.ensures.bytes in
+    let p = numbers_all_written c.args.kind c.args.values.now (sym c.in_ok-kind_limit.ensures) nine c.args.out.now (sym c.in_ok-first_limit.ensures) c.store.ensures.count room c.store.ensures.bytes in
     record { answer = p.0; bytes = p.1 }
