@@ -26,11 +26,13 @@ target/host/edges: host/edges/main.rs $(wildcard host/edges/*.rs)
 	@mkdir -p target/host
 	rustc --edition 2021 -O -o $@ $<
 
-# The C interface: the examples against their stored outputs, and a test of every function, with guards around its buffers.
+# The C interface: the examples against their stored outputs, and a test of every function, with guards around its buffers; and what the
+# archive needs from outside.
 till: target/host/till target/host/sheet target/host/till-test
 	target/host/till | cmp - examples/till.txt
 	target/host/sheet | cmp - examples/sheet.txt
 	target/host/till-test
+	host/till/needs.sh target/staticlib/libtill.a
 
 # The header's constants and texts are those of the source, one by one, and comments have the answers of the definitions.
 constants:

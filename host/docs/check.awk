@@ -19,7 +19,7 @@ function words_of(text, words) {
 
 # Takes a file of Rattle or of the prover in: declared[file, name] is the first line that declares a name, which is `pub NAME`
 # with `abbrev`, `unfoldable`, `record` or `data`, or `fn NAME` and other items of Rattle; stands[file, line, name] is 1 for
-# every word of a line; defined[file, name] is 1 for a definition, which is a `pub` at the start of its line.
+# every word of a line; defined[file, name] is 1 for a definition, which is a `pub` at the start of its line and no `pub use`.
 function take_in(file,    text, line, words, count, i, item, words_before) {
     if (file in taken) return
     taken[file] = 1
@@ -33,7 +33,7 @@ function take_in(file,    text, line, words, count, i, item, words_before) {
             stands[file, line, words[i]] = 1
             if (!words_before) continue
             if (item && !((file, words[i]) in declared)) declared[file, words[i]] = line
-            if (item && text ~ /^[a-z]/ && words[i] !~ /^(record|data|mod)$/) defined[file, words[i]] = 1
+            if (item && text ~ /^[a-z]/ && words[i] !~ /^(record|data|mod|use)$/) defined[file, words[i]] = 1
             if (words[i] ~ /^(pub|fn|trait|struct|enum|const|static)$/) item = 1
             else if (words[i] !~ /^(abbrev|unfoldable|record|data|extern|"C")$/) words_before = 0
         }

@@ -12,7 +12,7 @@ use borrow.Author.Tests.{lt-ltb, ltb-true, eq-eqb, ne_eqb, eqb-true, eqb-false, 
 use Rattle.formats.specs.declared.head.Pair.{Pair}
 use Rattle.formats.specs.declared.head.Pair.TheVariants.{Audio, Picture}
 use Rattle.formats.specs.Facts.{numbered, facts_pass, in_range, key_passes}
-use Rattle.formats.specs.Entry.{is_vacant, is_copy, is_full}
+use Rattle.formats.specs.Entry.{is_copy, is_full}
 use Rattle.formats.specs.Head.{LedgerHead, TitlesHead, RulesHead, ledger_passes, ledger_application, titles_pass, rules_pass, rules_application}
 use Rattle.formats.specs.declared.facts.Facts.{Facts}
 use Rattle.requests.specs.declared.request.Request.{Request}
@@ -26,7 +26,7 @@ use Rattle.formats.proofs.facts.Laws.{numbered_range, range_numbered, Ranges, ra
 use Rattle.formats.proofs.head.Laws.{ledger_head, ledger_passes_lem, titles_head, titles_pass_lem, rules_head, rules_pass_lem}
 use Rattle.calls.specs.Buffers.{Buffers, state_at, row_facts, here_facts, kind_at, content_at, facts_at, is_empty, is_here, is_away, one, copies, Within}
 use Rattle.calls.specs.Refusal.{Condition, ◌when◌, first, FirstToHold, NoneHolds}
-use Rattle.calls.specs.Conditions.{looks_at_f2, may_not_move, conditions}
+use Rattle.calls.specs.Conditions.{is_vacant, looks_at_f2, may_not_move, conditions}
 use Rattle.calls.specs.Perform.{perform}
 use Rattle.calls.specs.Needs.{Need, ◌needs◌, AllMet, FirstUnmet, AnsweredBy, FactsInRange, RulesOfLedger, MayMove, NoCopy, needs_of}
 use Rattle.calls.proofs.Refusals.{refusing, none_is_0, answer_first, of_first, to_first, of_none, to_none, holds_not}

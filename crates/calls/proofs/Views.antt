@@ -22,7 +22,7 @@ use Rattle.formats.specs.declared.row.RowState.TheVariants.{NoState}
 use Rattle.formats.proofs.Part.{part_length}
 use Rattle.formats.proofs.Tests.{split, both}
 use Rattle.formats.proofs.head.Laws.{rows_kept}
-use Rattle.calls.specs.Buffers.{kind_at, content_at, facts_at, cci_at, one, copy_of, full_with, copies, full_entries, Buffers, row_at, title_at, rule_at, state_in, state_at, Within}
+use Rattle.calls.specs.Buffers.{kind_at, content_at, facts_at, cci_at, one, copy_of, copies, full_entries, Buffers, row_at, title_at, rule_at, state_in, state_at, Within}
 use Rattle.calls.specs.Needs.{Vacant}
 use Rattle.calls.specs.Untouched.{SlotsKept}
 use Rattle.calls.proofs.Slots.{slot_ends, slot_same, slots_kept}
@@ -129,28 +129,37 @@ copy_is b j c e id = place_is b j e ∙ ap (λ (i : ℕ). copy i (cci_at b j)) i
 -- COUNTS
 
 -- the copies that the bytes show are those at the places
-copy_counts : (c : ℕ) (t r : List ℕ) (f : Facts) (k : EntryKind) → kind_of t r ≡ k → copy_in c (place_by k (id_of t) f) ≡ one (copy_of c t r)
-copy_counts c t r f Free e = rw e refl
-copy_counts c t r f Copy e = rw e refl
-copy_counts c t r f Full e = rw e refl
-copy_counts c t r f Torn e = rw e refl
-copy_counts c t r f Spent e = rw e refl
+copy_counts : (c : ℕ) (k : EntryKind) (id : ℕ) (f : Facts) → copy_in c (place_by k id f) ≡ one (is_copy k && eqb id c)
+copy_counts c Free id f = refl
+copy_counts c Copy id f = refl
+copy_counts c Full id f = refl
+copy_counts c Torn id f = refl
+copy_counts c Spent id f = refl
+
+-- which kinds count as copies, kind by kind
+copy_said : (c : ℕ) (t r : List ℕ) (k : EntryKind) → kind_of t r ≡ k → one (is_copy k && eqb (id_of t) c) ≡ one (copy_of c t r)
+copy_said c t r Free e = rw e refl
+copy_said c t r Copy e = rw e refl
+copy_said c t r Full e = rw e refl
+copy_said c t r Torn e = rw e refl
+copy_said c t r Spent e = rw e refl
 
 pub copies_seen : (c : ℕ) (b : Buffers) → copies c b.titles b.rules ≡ copies_in 999 c (view b)
 unfolding copies
-copies_seen c b = total_same 999 _ _ (λ j l. sym (copy_counts c (title_at b.titles j) (rule_at b.rules j) (facts_at b j) (kind_at b j) refl))
+copies_seen c b =
+    total_same 999 _ _ (λ j l. sym (copy_counts c (kind_at b j) (content_at b j) (facts_at b j) ∙ copy_said c (title_at b.titles j) (rule_at b.rules j) (kind_at b j) refl))
 
 -- the holders that the bytes show are those at the places
-full_counts : (c : ℕ) (t r : List ℕ) (f : Facts) (k : EntryKind) → kind_of t r ≡ k → full_in c (place_by k (id_of t) f) ≡ one (full_with c t r)
-full_counts c t r f Free e = rw e refl
-full_counts c t r f Copy e = rw e refl
-full_counts c t r f Full e = rw e refl
-full_counts c t r f Torn e = rw e refl
-full_counts c t r f Spent e = rw e refl
+full_counts : (c : ℕ) (k : EntryKind) (id : ℕ) (f : Facts) → full_in c (place_by k id f) ≡ one (is_full k && eqb id c)
+full_counts c Free id f = refl
+full_counts c Copy id f = refl
+full_counts c Full id f = refl
+full_counts c Torn id f = refl
+full_counts c Spent id f = refl
 
 pub fulls_seen : (c : ℕ) (b : Buffers) → full_entries c b.titles b.rules ≡ fulls_in 999 c (view b)
 unfolding full_entries
-fulls_seen c b = total_same 999 _ _ (λ j l. sym (full_counts c (title_at b.titles j) (rule_at b.rules j) (facts_at b j) (kind_at b j) refl))
+fulls_seen c b = total_same 999 _ _ (λ j l. sym (full_counts c (kind_at b j) (content_at b j) (facts_at b j)))
 
 -- ENTRIES WRITTEN
 

@@ -2,7 +2,9 @@
 use Rattle.std.specs.Prelude.{ℕ, ◌%◌, ◌^◌, List, [], ◌∷◌, ◌++◌, Bool, true, false, not, ◌&&◌, ◌||◌, eqb}
 use Rattle.formats.specs.Facts.{facts_pass}
 use Rattle.formats.specs.Half.{key_of}
-use Rattle.formats.specs.Entry.{is_vacant, is_copy, is_full}
+-- handed on, so that what is proved of condition 10 is of the test that stands here
+pub use Rattle.formats.specs.Entry.{is_vacant}
+use Rattle.formats.specs.Entry.{is_copy, is_full}
 use Rattle.formats.specs.Rule.{hash_of}
 use Rattle.formats.specs.Head.{ledger_passes, ledger_application, titles_pass, rules_pass, rules_application}
 use Rattle.formats.specs.declared.head.Pair.{Pair}

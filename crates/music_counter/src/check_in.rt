@@ -40,7 +40,7 @@ pub fn check_in(
 {
     let shop = Shop::new(ledger, titles, rules);
     let found = refusals::check_in::refusal(pair, shop, entry, f1);
-    // A test with a name, and no `?`: so an edit can turn it round, and the contract refuses it.
+    // A test with a name, and no `?`: so an edit can turn it round, and is refused by the contract.
     let is_refused = refusal::number(found) != 0;
     if is_refused {
         return found;

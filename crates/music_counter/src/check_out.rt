@@ -40,7 +40,7 @@ pub fn check_out(
 {
     let shop = Shop::new(ledger, titles, rules);
     let found = refusals::check_out::refusal(pair, shop, content, entry);
-    // No `?`, of which no edit can spoil the answer.
+    // No `?`: an edit of it would change the name of its goal, and be refused for that.
     if found.is_err() {
         return found;
     }

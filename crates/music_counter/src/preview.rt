@@ -1,5 +1,5 @@
 // Preview: what the requests of a basket would be answered if they were committed now. They are carried out on a copy.
-ghost use Rattle.std.specs.Prelude.{◌≡◌, Option, Some, map};
+ghost use Rattle.std.specs.Prelude.{◌≡◌, Option, Some, map, length};
 ghost use Rattle.formats.specs.Refusal.{answer_number};
 ghost use Rattle.requests.specs.declared.request.Request.{Request};
 ghost use Rattle.calls.specs.Buffers.{buffers_of};
@@ -46,6 +46,17 @@ fn as_long(shop: Shop, scratch: Shop) -> bool
         && scratch.card.rules.len() == shop.card.rules.len()
 }
 
+// Writes one buffer over another that is as long. By a loop, of which the compiler makes moves of sixteen bytes: for `copy_from_slice` it
+// calls `memmove`, which the archive for C would then need from outside.
+fn copy(from: &[u8], to: &mut [u8])
+    requires { length to.old ≡ length from.now }
+    ensures { to.new ≡ from.now }
+{
+    for i in 0..to.len() {
+        to[i] = from[i];
+    }
+}
+
 // Done, or refused with 17 or 18 and nothing changed. The buffers that are lent to be written are scratch: their bytes before count for
 // nothing. Of the basket, the places from `count` on are not looked at.
 pub fn preview<G: Given>(
@@ -68,9 +79,9 @@ pub fn preview<G: Given>(
     if !as_long(shop, Shop::new(ledger, titles, rules)) {
         return Err(Refusal::Scratch);
     }
-    ledger.copy_from_slice(shop.ledger);
-    titles.copy_from_slice(shop.card.titles);
-    rules.copy_from_slice(shop.card.rules);
+    copy(shop.ledger, ledger);
+    copy(shop.card.titles, titles);
+    copy(shop.card.rules, rules);
     *answers = [0; 16];
     for i in 0..count as usize {
         answers[i] = basket[i].perform(pair, ledger, titles, rules);

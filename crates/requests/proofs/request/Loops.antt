@@ -54,7 +54,7 @@ pub numbers_next : (vs : List ℕ) (i : ℕ) → i < length vs → numbers (drop
 unfolding numbers
 numbers_next vs i h = rw (beside vs i h) refl
 
--- what the loop of `len` keeps: the bytes counted and those of the numbers left make up all
+-- what the loop of `written_len` keeps: the bytes counted and those of the numbers left make up all
 pub record Counting (vs : List ℕ) (all n i : ℕ) : Type 0 where
   pub total : n + length (numbers (drop i vs)) ≡ all
   pub most : n ≤ 10 + 10 * i
@@ -78,7 +78,7 @@ none_left (a ∷ rest) [] e = refl
 none_left (a ∷ rest) (v ∷ vs) (inl e) = cc
 none_left (a ∷ rest) (v ∷ vs) (inr e) = cc
 
--- what the loop of `limit` keeps: the arguments left, with the values left, meet the limit n that all of them meet
+-- what the loop of `first_limit` keeps: the arguments left, with the values left, meet the limit n that all of them meet
 module _ {sch : List Argument} {vs : List ℕ} {n : ℕ} (inv : first_limit sch vs ≡ n) where
   module _ {a : Argument} {rest : List Argument} {v : ℕ} {more : List ℕ} (next : (sch ≡ a ∷ rest) × (vs ≡ v ∷ more)) where
     pub limit_kept : 0 ≡ limit a v → first_limit rest more ≡ n

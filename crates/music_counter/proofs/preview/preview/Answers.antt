@@ -27,8 +27,8 @@ loop-i-preserved g c =
 
 pub returns : goal.returns
 returns g c =
-    let card = ap₂ (buffers_of c.copy_from_slice.new.self) c.copy_from_slice-2.ensures.after c.copy_from_slice-3.ensures.after in
-    let copied = card ∙ ap (λ (l : List ℕ). buffers_of l c.args.shop.card.titles.now c.args.shop.card.rules.now) c.copy_from_slice.ensures.after in
+    let card = ap₂ (buffers_of c.copy.new.to) c.copy-2.ensures c.copy-3.ensures in
+    let copied = card ∙ ap (λ (l : List ℕ). buffers_of l c.args.shop.card.titles.now c.args.shop.card.rules.now) c.copy.ensures in
     let all = c.loop-i.invariant in
     let past = c.loop-i-test.false in
     tells_done _ _ _ _ _ _ (fits _ _ _ c.if-count-gt16.false (sym (ap (as_long (lent c.args.shop)) c.new.ensures) ∙ sym c.as_long.ensures ∙ c.if-not-as_long.false)) copied (length-map _ _ ∙ c.told-basket) c.if-count-gt16.false (all_buffers all past) (all_answers all past)
